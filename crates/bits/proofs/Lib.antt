@@ -1,0 +1,6 @@
+pub mod ListsLaws
+pub mod BitsLaws
+pub mod RisingLaws
+pub mod BlankLaws
+pub mod NumbersLaws
+pub mod ValueLaws
