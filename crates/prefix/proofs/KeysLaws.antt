@@ -1,0 +1,136 @@
+-- The laws of a prefix as the bit string that it is, and those that make the contracts.
+-- No contract cites this file.
+-- Assumes nothing.
+use Prim.Native.Nat.{ℕ, _-_, _≤_, _<_, min}
+use native.Mathlib.Omega.{arith}
+use mathlib.Core.Path.{_≡_, refl, sym, ap, ap₂, _∙_}
+use mathlib.Core.Bool.{Bool, true, false, _&&_}
+use lib.Dec.{eqb, leb}
+use lib.ListN.{length, getD, drop, length-take}
+use lib.Seq.{take-take, getD-take}
+use borrow.Author.Tests.{le-leb, leb-true}
+use Rattle.bits.specs.Bits.{lcp, order, isPrefix, meet}
+use Rattle.bits.specs.Numbers.{bitsOf, clear, blank, numberOrder, orElse}
+use Rattle.bits.specs.declared.Meeting.the-variants.{Equal, Below, Above, Apart}
+use Rattle.bits.proofs.BitsLaws.{length-lcp-take, isPrefix-lcp, meet-apart, meet-above, meet-below, meet-equal}
+use Rattle.bits.proofs.BlankLaws.{take-blank, clear-drop-blank, blank-clear, blank-ext, orElse-assoc, order-take}
+use Rattle.prefix.specs.Keys.{wordBits, stringOf, isValid, Valid, Validity, Shared, Cut}
+use Rattle.prefix.specs.declared.Prefix.{Prefix}
+use Rattle.prefix.proofs.WordsLaws.{Small, length-wordBits, order-wordBits, wordBits-inj, clear-wordBits, blank-wordBits}
+
+-- ---- stringOf
+
+pub length-stringOf : (p : Prefix) → p .width ≤ 128 → length (stringOf p) ≡ p .width
+unfolding stringOf
+length-stringOf p h = omega (arith, length-take (p .width) (wordBits p), length-wordBits p)
+
+pub getD-stringOf : (p : Prefix) (i : ℕ) → i < p .width → getD (stringOf p) i false ≡ getD (wordBits p) i false
+unfolding stringOf
+getD-stringOf p i h = getD-take (p .width) (wordBits p) i false h
+
+pub isPrefix-stringOf : (k p : Prefix) (r : ℕ) → p .width ≤ 128 → r ≡ length (lcp (stringOf k) (stringOf p))
+    → eqb r (p .width) ≡ isPrefix (stringOf p) (stringOf k)
+isPrefix-stringOf k p r h e = ap₂ eqb e (sym (length-stringOf p h)) ∙ isPrefix-lcp (stringOf p) (stringOf k)
+
+-- valid prefixes go by all of their bits, and then by their widths
+order-stringOf-at : (a b : Prefix) → Valid a → Valid b
+    → order (stringOf a) (stringOf b) ≡ orElse (order (wordBits a) (wordBits b)) (numberOrder (a .width) (b .width))
+unfolding stringOf
+order-stringOf-at a b va vb =
+    order-take (a .width) (b .width) (wordBits a) (wordBits b) (length-wordBits a ∙ sym (length-wordBits b))
+    (omega (arith, length-wordBits a, va .narrow)) (omega (arith, length-wordBits b, vb .narrow)) (va .clean) (vb .clean)
+
+pub order-stringOf : (a b : Prefix) → Small a → Small b → Valid a → Valid b
+    → order (stringOf a) (stringOf b)
+    ≡ orElse (orElse (orElse (orElse (numberOrder (a .w0) (b .w0)) (numberOrder (a .w1) (b .w1))) (numberOrder (a .w2) (b .w2)))
+    (numberOrder (a .w3) (b .w3))) (numberOrder (a .width) (b .width))
+order-stringOf a b sa sb va vb = order-stringOf-at a b va vb ∙ rw (order-wordBits a b sa sb) (simp orElse-assoc)
+
+-- valid prefixes with one string are one prefix
+pub stringOf-inj : (a b : Prefix) → Small a → Small b → Valid a → Valid b → stringOf a ≡ stringOf b → a ≡ b
+unfolding stringOf
+stringOf-inj a b sa sb va vb e =
+    let w : a .width ≡ b .width = sym (length-stringOf a (va .narrow)) ∙ ap length e ∙ length-stringOf b (vb .narrow) in
+    let l : length (wordBits a) ≡ length (wordBits b) = length-wordBits a ∙ sym (length-wordBits b) in
+    let q : wordBits a ≡ wordBits b =
+    sym (blank-clear (a .width) (wordBits a) (va .clean)) ∙ blank-ext (a .width) (b .width) (wordBits a) (wordBits b) l w e
+    ∙ blank-clear (b .width) (wordBits b) (vb .clean) in
+    let i = wordBits-inj a b sa sb q in
+    (λ t. record { width = w t; w0 = i .0 t; w1 = i .1 t; w2 = i .2 t; w3 = i .3 t })
+
+-- ---- meet, one law for each way out, of prefixes s and k of which the first n bits are common
+
+module _ (s k : Prefix) (n : ℕ) (hs : s .width ≤ 128) (hk : k .width ≤ 128) (e : n ≡ length (lcp (stringOf s) (stringOf k))) where
+  pub meet-stringOf-apart : (b : Bool) → n < s .width → n < k .width → b ≡ getD (stringOf k) n false → Apart b ≡ meet (stringOf s) (stringOf k)
+  meet-stringOf-apart b h g q =
+      ap Apart (q ∙ ap (λ (i : ℕ). getD (stringOf k) i false) e)
+      ∙ sym (meet-apart (stringOf s) (stringOf k) (omega (arith, length-stringOf s hs)) (omega (arith, length-stringOf k hk)))
+
+  pub meet-stringOf-above : (b : Bool) → n < s .width → k .width ≤ n → b ≡ getD (stringOf s) n false → Above b ≡ meet (stringOf s) (stringOf k)
+  meet-stringOf-above b h g q =
+      ap Above (q ∙ ap (λ (i : ℕ). getD (stringOf s) i false) e)
+      ∙ sym (meet-above (stringOf s) (stringOf k) (omega (arith, length-stringOf s hs)) (omega (arith, length-stringOf k hk)))
+
+  pub meet-stringOf-below : (b : Bool) → s .width ≤ n → n < k .width → b ≡ getD (stringOf k) n false → Below b ≡ meet (stringOf s) (stringOf k)
+  meet-stringOf-below b h g q =
+      ap Below (q ∙ ap (λ (i : ℕ). getD (stringOf k) i false) e)
+      ∙ sym (meet-below (stringOf s) (stringOf k) (omega (arith, length-stringOf s hs)) (omega (arith, length-stringOf k hk)))
+
+  pub meet-stringOf-equal : s .width ≤ n → k .width ≤ n → Equal ≡ meet (stringOf s) (stringOf k)
+  meet-stringOf-equal h g =
+      sym (meet-equal (stringOf s) (stringOf k) (omega (arith, length-stringOf s hs)) (omega (arith, length-stringOf k hk)))
+
+-- ---- isValid
+
+both-true : (a b : Bool) → (a && b) ≡ true → (a ≡ true) × (b ≡ true)
+both-true true b h = (refl, h)
+both-true false b h = (h, cc)
+
+pub isValid-true : (p : Prefix) → isValid p ≡ true → Valid p
+unfolding isValid
+isValid-true p e =
+    let h = both-true (leb (p .width) 128) (clear (drop (p .width) (wordBits p))) e in
+    record { narrow = leb-true (p .width) 128 (h .0); clean = h .1 }
+
+pub valid-isValid : (p : Prefix) → Valid p → isValid p ≡ true
+unfolding isValid
+valid-isValid p v = rw (le-leb (p .width) 128 (v .narrow)) (v .clean)
+
+-- ---- the contracts
+
+pub valid-promise : (p : Prefix) (n1 n2 n3 : ℕ) (c0 c1 c2 c3 : Bool) → n1 ≡ p .width - 32 → n2 ≡ p .width - 64 → n3 ≡ p .width - 96
+    → c0 ≡ clear (drop (p .width) (bitsOf 32 (p .w0))) → c1 ≡ clear (drop n1 (bitsOf 32 (p .w1)))
+    → c2 ≡ clear (drop n2 (bitsOf 32 (p .w2))) → c3 ≡ clear (drop n3 (bitsOf 32 (p .w3)))
+    → Validity p (leb (p .width) 128 && (c0 && (c1 && (c2 && c3))))
+unfolding isValid
+valid-promise p n1 n2 n3 c0 c1 c2 c3 m1 m2 m3 e0 e1 e2 e3 =
+    let r : Bool = leb (p .width) 128 && (c0 && (c1 && (c2 && c3))) in
+    let a : r ≡ isValid p = rw (clear-wordBits, e0, e1, e2, e3, m1, m2, m3) in
+    record { answer = a; yes = λ t. isValid-true p (sym a ∙ t) }
+
+pub shared-promise : (a b : Prefix) (r : ℕ) → r ≡ min (min (a .width) (b .width)) (length (lcp (wordBits a) (wordBits b))) → Shared a b r
+unfolding stringOf
+shared-promise a b r e =
+    record {
+      answer = e ∙ sym (length-lcp-take (a .width) (b .width) (wordBits a) (wordBits b));
+      left = omega arith;
+      right = omega arith;
+    }
+
+-- a prefix whose words are those of a with the bits after its width blanked
+cut-blank : (a r : Prefix) → r .width ≤ a .width → a .width ≤ 128 → wordBits r ≡ blank (r .width) (wordBits a) → Cut a (r .width) r
+unfolding stringOf
+cut-blank a r h g e =
+    record {
+      width = refl;
+      string = rw e (take-blank (r .width) (wordBits a) ∙ sym (take-take (r .width) (a .width) (wordBits a) h));
+      valid = record { narrow = omega arith; clean = rw e (clear-drop-blank (r .width) (wordBits a)) };
+    }
+
+pub cut-promise : (a : Prefix) (n n1 n2 n3 r0 r1 r2 r3 : ℕ) → a .width ≤ 128 → n ≤ a .width → n1 ≡ n - 32 → n2 ≡ n - 64 → n3 ≡ n - 96
+    → bitsOf 32 r0 ≡ blank n (bitsOf 32 (a .w0)) → bitsOf 32 r1 ≡ blank n1 (bitsOf 32 (a .w1))
+    → bitsOf 32 r2 ≡ blank n2 (bitsOf 32 (a .w2)) → bitsOf 32 r3 ≡ blank n3 (bitsOf 32 (a .w3))
+    → Cut a n (record { width = n; w0 = r0; w1 = r1; w2 = r2; w3 = r3 })
+unfolding wordBits
+cut-promise a n n1 n2 n3 r0 r1 r2 r3 g h m1 m2 m3 e0 e1 e2 e3 =
+    cut-blank a (record { width = n; w0 = r0; w1 = r1; w2 = r2; w3 = r3 }) h g (rw (e0, e1, e2, e3, m1, m2, m3, blank-wordBits))
