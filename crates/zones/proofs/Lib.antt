@@ -1,0 +1,12 @@
+pub mod NodesLaws
+pub mod MapsLaws
+pub mod MatchLaws
+pub mod PathLaws
+pub mod TreeLaws
+pub mod WalkLaws
+pub mod FindLaws
+pub mod PutLaws
+pub mod RemoveLaws
+pub mod ShapeLaws
+pub mod SlicesLaws
+pub mod CountLaws

@@ -1,0 +1,4 @@
+pub mod Maps
+pub mod Nodes
+pub mod Tree
+pub mod Slices

@@ -1,0 +1,95 @@
+-- Listing in slices: what a slice gives, whether more remain, its count, and a listing of several slices.
+-- Paper 01, "Listing in slices".
+--   after r p         p comes strictly after the resume prefix; with none given every p does
+--   left m r          what is stored after the resume prefix
+--   given m r b       what the slice gives
+--   remains m r b     some stored prefix remains after these
+--   passed m r z      the nodes after the resume prefix and not after z
+--   found m r         the length of the resume prefix's path
+--   count m r b       the slice's count
+--   Turn              one slice of a listing: the map as it then stands, and the size asked for
+--   turns m bs        slices of an unchanged map
+--   next r t          where the slice after t resumes, t having resumed at r
+--   listed r ts       the keys that the slices list, the first resuming at r
+--   counted r ts      the sum of their counts
+--   pathed r ts       the sum of the lengths of their resumes' paths
+--   ended r ts        the last of them says that nothing remains
+-- Assumes nothing.
+use Prim.Native.Nat.{ℕ, _+_}
+use mathlib.Core.Bool.{Bool, true, false, not, _&&_}
+use mathlib.Core.List.{List, [], _∷_, _++_, map}
+use mathlib.Core.Option.{Option, none, some}
+use lib.ListN.{length, take, drop}
+use Rattle.bits.specs.Lists.{keep, last, isEmpty}
+use Rattle.bits.specs.Bits.{Bits, before}
+use Rattle.zones.specs.Maps.{Entry, Map, keys}
+use Rattle.zones.specs.Nodes.{nodes, path}
+
+-- "strictly after the resume prefix (from the start if none is given)"
+abbrev pub after : Option Bits → Bits → Bool
+after none p = true
+after (some r) p = before r p
+
+unfoldable pub left : Map → Option Bits → Map
+left m r = keep (λ e. after r (e .key)) m
+
+-- "the first b stored prefixes that come strictly after the resume prefix .., or all of them if fewer are left"
+unfoldable pub given : Map → Option Bits → ℕ → Map
+given m r b = take b (left m r)
+
+-- "whether any stored prefix remains after them"
+unfoldable pub remains : Map → Option Bits → ℕ → Bool
+remains m r b = not (isEmpty (drop b (left m r)))
+
+-- "the number of nodes strictly after the resume prefix and not after the last one listed (0 if none listed)"
+unfoldable pub passed : Map → Option Bits → Option Bits → ℕ
+passed m r none = 0
+passed m r (some z) = length (keep (λ p. after r p && not (before z p)) (nodes (keys m)))
+
+-- "plus the length of the resume prefix's path (0 if no resume is given)"
+unfoldable pub found : Map → Option Bits → ℕ
+found m none = 0
+found m (some r) = length (path (keys m) r)
+
+unfoldable pub count : Map → Option Bits → ℕ → ℕ
+count m r b = passed m r (last (keys (given m r b))) + found m r
+
+-- ---- a listing of several slices, "each slice resuming at the last prefix given"; "Edits may come between slices"
+
+pub record Turn : Type 0 where
+  pub stored : Map
+  pub size : ℕ
+
+-- "an unchanged table": the same map at each slice
+abbrev pub turns : Map → List ℕ → List Turn
+turns m [] = []
+turns m (b ∷ bs) = record { stored = m; size = b } ∷ turns m bs
+
+-- where the next slice resumes: at the last prefix given, or where this one did if it gave none
+abbrev pub nextAt : Option Bits → Option Bits → Option Bits
+nextAt r none = r
+nextAt r (some z) = some z
+
+unfoldable pub next : Option Bits → Turn → Option Bits
+next r t = nextAt r (last (keys (given (t .stored) r (t .size))))
+
+-- the keys listed, one slice after the other
+abbrev pub listed : Option Bits → List Turn → List Bits
+listed r [] = []
+listed r (t ∷ ts) = keys (given (t .stored) r (t .size)) ++ listed (next r t) ts
+
+-- the sum of the counts
+abbrev pub counted : Option Bits → List Turn → ℕ
+counted r [] = 0
+counted r (t ∷ ts) = count (t .stored) r (t .size) + counted (next r t) ts
+
+-- the sum of the resumes' paths
+abbrev pub pathed : Option Bits → List Turn → ℕ
+pathed r [] = 0
+pathed r (t ∷ ts) = found (t .stored) r + pathed (next r t) ts
+
+-- the last slice says that nothing remains
+abbrev pub ended : Option Bits → List Turn → Bool
+ended r [] = false
+ended r (t ∷ []) = not (remains (t .stored) r (t .size))
+ended r (t ∷ (u ∷ ts)) = ended (next r t) (u ∷ ts)
