@@ -1,7 +1,7 @@
 -- The laws of a prefix as the bit string that it is, and those that make the contracts.
 -- No contract cites this file.
 -- Assumes nothing.
-use Prim.Native.Nat.{ℕ, _-_, _≤_, _<_, min}
+use Prim.Native.Nat.{ℕ, _-_, _^_, _≤_, _<_, min}
 use native.Mathlib.Omega.{arith}
 use mathlib.Core.Path.{_≡_, refl, sym, ap, ap₂, _∙_}
 use mathlib.Core.Bool.{Bool, true, false, _&&_}
@@ -10,11 +10,12 @@ use lib.ListN.{length, getD, drop, length-take}
 use lib.Seq.{take-take, getD-take}
 use borrow.Author.Tests.{le-leb, leb-true}
 use Rattle.bits.specs.Bits.{lcp, order, isPrefix, meet}
-use Rattle.bits.specs.Numbers.{bitsOf, clear, blank, numberOrder, orElse}
+use Rattle.bits.specs.Numbers.{bitsOf, value, clear, blank, numberOrder, orElse}
 use Rattle.bits.specs.declared.Meeting.the-variants.{Equal, Below, Above, Apart}
 use Rattle.bits.proofs.BitsLaws.{length-lcp-take, isPrefix-lcp, meet-apart, meet-above, meet-below, meet-equal}
 use Rattle.bits.proofs.BlankLaws.{take-blank, clear-drop-blank, blank-clear, blank-ext, orElse-assoc, order-take}
-use Rattle.prefix.specs.Keys.{wordBits, stringOf, isValid, Valid, Validity, Shared, Cut}
+use Rattle.bits.proofs.ValueLaws.{value-bitsOf}
+use Rattle.prefix.specs.Keys.{wordBits, stringOf, isValid, Valid, cutOf, Validity, Shared, Cut}
 use Rattle.prefix.specs.declared.Prefix.{Prefix}
 use Rattle.prefix.proofs.WordsLaws.{Small, length-wordBits, order-wordBits, wordBits-inj, clear-wordBits, blank-wordBits}
 
@@ -118,19 +119,31 @@ shared-promise a b r e =
     }
 
 -- a prefix whose words are those of a with the bits after its width blanked
-cut-blank : (a r : Prefix) → r .width ≤ a .width → a .width ≤ 128 → wordBits r ≡ blank (r .width) (wordBits a) → Cut a (r .width) r
+-- a word is what its kept bits say
+word-blank : (n m x r : ℕ) → r < 2 ^ 32 → m ≡ n → bitsOf 32 r ≡ blank m (bitsOf 32 x) → r ≡ value (blank n (bitsOf 32 x))
+word-blank n m x r h q e = sym (value-bitsOf 32 r h) ∙ ap value e ∙ ap (λ (j : ℕ). value (blank j (bitsOf 32 x))) q
+
+cut-blank : (a r : Prefix) → r ≡ cutOf a (r .width) → r .width ≤ a .width → a .width ≤ 128 → wordBits r ≡ blank (r .width) (wordBits a)
+    → Cut a (r .width) r
 unfolding stringOf
-cut-blank a r h g e =
+cut-blank a r is h g e =
     record {
+      answer = is;
       width = refl;
       string = rw e (take-blank (r .width) (wordBits a) ∙ sym (take-take (r .width) (a .width) (wordBits a) h));
       valid = record { narrow = omega arith; clean = rw e (clear-drop-blank (r .width) (wordBits a)) };
     }
 
 pub cut-promise : (a : Prefix) (n n1 n2 n3 r0 r1 r2 r3 : ℕ) → a .width ≤ 128 → n ≤ a .width → n1 ≡ n - 32 → n2 ≡ n - 64 → n3 ≡ n - 96
+    → Small (record { width = n; w0 = r0; w1 = r1; w2 = r2; w3 = r3 })
     → bitsOf 32 r0 ≡ blank n (bitsOf 32 (a .w0)) → bitsOf 32 r1 ≡ blank n1 (bitsOf 32 (a .w1))
     → bitsOf 32 r2 ≡ blank n2 (bitsOf 32 (a .w2)) → bitsOf 32 r3 ≡ blank n3 (bitsOf 32 (a .w3))
     → Cut a n (record { width = n; w0 = r0; w1 = r1; w2 = r2; w3 = r3 })
-unfolding wordBits
-cut-promise a n n1 n2 n3 r0 r1 r2 r3 g h m1 m2 m3 e0 e1 e2 e3 =
-    cut-blank a (record { width = n; w0 = r0; w1 = r1; w2 = r2; w3 = r3 }) h g (rw (e0, e1, e2, e3, m1, m2, m3, blank-wordBits))
+unfolding wordBits cutOf
+cut-promise a n n1 n2 n3 r0 r1 r2 r3 g h m1 m2 m3 small e0 e1 e2 e3 =
+    let q0 = word-blank n n (a .w0) r0 (small .0) refl e0 in
+    let q1 = word-blank (n - 32) n1 (a .w1) r1 (small .1) m1 e1 in
+    let q2 = word-blank (n - 64) n2 (a .w2) r2 (small .2) m2 e2 in
+    let q3 = word-blank (n - 96) n3 (a .w3) r3 (small .3) m3 e3 in
+    cut-blank a (record { width = n; w0 = r0; w1 = r1; w2 = r2; w3 = r3 })
+    (λ i. record { width = n; w0 = q0 i; w1 = q1 i; w2 = q2 i; w3 = q3 i }) h g (rw (e0, e1, e2, e3, m1, m2, m3, blank-wordBits))

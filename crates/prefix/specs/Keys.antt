@@ -4,16 +4,17 @@
 --   stringOf p      the prefix's bit string
 --   isValid p       the width is at most 128 and no bit is set after it
 --   Valid p         the same as a fact, with its parts
+--   cutOf a n       the prefix of the first n bits of a
 --   Validity, Shared, Cut   the contracts of `valid`, `shared` and `cut`
 -- Assumes nothing.
-use Prim.Native.Nat.{ℕ, _≤_}
+use Prim.Native.Nat.{ℕ, _-_, _≤_}
 use mathlib.Core.Path.{_≡_}
 use mathlib.Core.Bool.{Bool, true, _&&_}
 use mathlib.Core.List.{_++_}
 use lib.Dec.{leb}
 use lib.ListN.{length, take, drop}
 use Rattle.bits.specs.Bits.{Bits, lcp}
-use Rattle.bits.specs.Numbers.{bitsOf, clear}
+use Rattle.bits.specs.Numbers.{bitsOf, value, clear, blank}
 use Rattle.prefix.specs.declared.Prefix.{Prefix}
 
 -- "four 32-bit words. Bit 1 is the highest bit of word 0; bit 128 is the lowest bit of word 3."
@@ -33,6 +34,17 @@ pub record Valid (p : Prefix) : Type 0 where
   pub narrow : p .width ≤ 128
   pub clean : clear (drop (p .width) (wordBits p)) ≡ true
 
+-- the prefix of the first n bits of a, as a value
+unfoldable pub cutOf : Prefix → ℕ → Prefix
+cutOf a n =
+    record {
+      width = n;
+      w0 = value (blank n (bitsOf 32 (a .w0)));
+      w1 = value (blank (n - 32) (bitsOf 32 (a .w1)));
+      w2 = value (blank (n - 64) (bitsOf 32 (a .w2)));
+      w3 = value (blank (n - 96) (bitsOf 32 (a .w3)));
+    }
+
 -- ---- what the calls promise
 
 pub record Validity (p : Prefix) (r : Bool) : Type 0 where
@@ -47,6 +59,7 @@ pub record Shared (a b : Prefix) (r : ℕ) : Type 0 where
 
 -- r is the prefix of the first n bits of a
 pub record Cut (a : Prefix) (n : ℕ) (r : Prefix) : Type 0 where
+  pub answer : r ≡ cutOf a n
   pub width : r .width ≡ n
   pub string : stringOf r ≡ take n (stringOf a)
   pub valid : Valid r

@@ -5,14 +5,16 @@
 --   labels t            the links of a tree's nodes, from the top, the side of 0 first
 --   Linked mem l t      from the link l the records are linked as the tree t is, each with its node's string and number
 --   Chained mem l ls    from the link l the spare records ls hang together, each by the one before, and end
---   Once c ls           ls has every record from 1 to c exactly once
+--   times l ls          how often the link l stands in ls
+--   Once c ls           ls has every record from 1 to c exactly once, and nothing else
 --   Holds ws m          the words ws are a table of the map m
 -- Assumes nothing.
-use Prim.Native.Nat.{ℕ, _+_, _≤_, _<_}
+use Prim.Native.Nat.{ℕ, _+_, _≤_}
 use mathlib.Core.Path.{_≡_}
-use mathlib.Core.Bool.{true, false}
-use mathlib.Core.List.{List, [], _∷_, _++_, List·Memᴰ}
+use mathlib.Core.Bool.{true, false, _&&_, cond}
+use mathlib.Core.List.{List, [], _∷_, _++_}
 use mathlib.Core.Option.{Option}
+use lib.Dec.{leb, ltb, eqb}
 use lib.ListN.{length}
 use Rattle.bits.specs.Bits.{Bits}
 use Rattle.prefix.specs.Keys.{stringOf, Valid}
@@ -45,17 +47,14 @@ abbrev pub Chained : Memory → ℕ → List ℕ → Type 0
 Chained mem l [] = l ≡ 0
 Chained mem l (a ∷ ls) = (l ≡ a) × (isSpare (mem a) ≡ true) × Chained mem (mem a .left) ls
 
--- no number stands in the list twice
-abbrev pub Distinct : List ℕ → Type 0
-Distinct [] = Unit {0}
-Distinct (l ∷ ls) = (List·Memᴰ l ls → ⊥) × Distinct ls
+-- how often the link l stands in a list
+abbrev pub times : ℕ → List ℕ → ℕ
+times l [] = 0
+times l (a ∷ ls) = cond (eqb l a) 1 0 + times l ls
 
--- "each node once .. and every other record" (as many as there are records, none twice, and none beyond: so each once)
-pub record Once (c : ℕ) (ls : List ℕ) : Type 0 where
-  pub distinct : Distinct ls
-  pub number : length ls ≡ c
-  pub low : (l : ℕ) → List·Memᴰ l ls → 0 < l
-  pub high : (l : ℕ) → List·Memᴰ l ls → l ≤ c
+-- "each node once .. and every other record": every record from 1 to c stands in the list exactly once, and nothing else does
+abbrev pub Once : ℕ → List ℕ → Type 0
+Once c ls = (l : ℕ) → times l ls ≡ cond (ltb 0 l && leb l c) 1 0
 
 pub record Holds (ws : List ℕ) (m : Map) : Type 0 where
   -- "c is 1 to 65,535"

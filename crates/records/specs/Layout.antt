@@ -10,10 +10,11 @@
 --   withRecord, withHeader   the words with another one there
 --   keyOf r           a record's key
 --   zoneOf r          the zone stored there, if there is one
+--   sideOf r x        the link of a record's side; withSide r x l: the record with the link l there
 --   isSpare r         the record is spare
 -- Assumes nothing.
 use Prim.Native.Nat.{ℕ, _+_, _-_, _*_, _/_, _%_, _≤_, _<_}
-use mathlib.Core.Bool.{Bool, _&&_, cond}
+use mathlib.Core.Bool.{Bool, true, false, _&&_, cond}
 use mathlib.Core.List.{List}
 use mathlib.Core.Option.{Option, none, some}
 use lib.Dec.{leb, ltb, eqb}
@@ -73,6 +74,17 @@ keyOf r = record { width = r .tag / 2; w0 = r .w0; w1 = r .w1; w2 = r .w2; w3 = 
 
 unfoldable pub zoneOf : Record → Option ℕ
 zoneOf r = cond (odd (r .tag)) (some (r .zone)) none
+
+-- the link of a side, that of 1 where x is true, and the record with another one there
+abbrev pub sideOf : Record → Bool → ℕ
+sideOf r false = r .left
+sideOf r true = r .right
+
+abbrev pub withSide : Record → Bool → ℕ → Record
+withSide r false l =
+    record { w0 = r .w0; w1 = r .w1; w2 = r .w2; w3 = r .w3; zone = r .zone; left = l; right = r .right; tag = r .tag }
+withSide r true l =
+    record { w0 = r .w0; w1 = r .w1; w2 = r .w2; w3 = r .w3; zone = r .zone; left = r .left; right = l; tag = r .tag }
 
 unfoldable pub isSpare : Record → Bool
 isSpare r = eqb (r .tag) 4294967295

@@ -11,6 +11,7 @@ returns c =
     let at-w2 = at-w3 .before .before in
     let at-w1 = at-w2 .before .before in
     cut-promise _ _ _ _ _ _ _ _ _ (search needs) (search needs) (at-w1 .minus .ensures) (at-w2 .minus2 .ensures) (at-w3 .minus3 .ensures)
+    (search needs, search needs, search needs, search needs)
     (search needs) (search needs) (search needs) (search needs)
 
 pub cut-spec : {M : Type 1} → statement M

@@ -1,0 +1,4 @@
+pub mod Walking
+pub mod Paths
+pub mod Fetching
+pub mod Matching

@@ -1,0 +1,285 @@
+// Reading a lent table: the path walk, and the two calls that it serves, fetch and longest match.
+// No public call has a `requires`. A walk reads each node of the key's path once, and no other
+// record (docs/READS.md).
+use prefix::Prefix;
+use records::Record;
+ghost use Prim.Native.Nat.{_≤_};
+ghost use mathlib.Core.Path.{_≡_};
+ghost use lib.ListN.{length};
+ghost use lib.Seq.{paste};
+ghost use Rattle.records.specs.Layout.{isTable};
+ghost use Rattle.lookup.specs.Walking.{sideOn, downOn, seenOn, stepOn, walkFrom, surveyOn};
+ghost use Rattle.lookup.specs.Fetching.{foundOf, Fetch};
+ghost use Rattle.lookup.specs.Matching.{matchOf, LongestMatch};
+
+// The bytes of a trail that has room for every path.
+pub const TRAIL: usize = 129;
+
+// ---- fetch
+
+// What `fetch` answers. The first number of Found and of Absent is how many nodes the path has.
+pub enum Fetched {
+    Found(usize, u32),
+    BadLength,
+    BadPrefix,
+    ShortOut,
+    Damaged,
+    Absent(usize),
+}
+
+// The zone number stored for k. Found and Absent write the widths of the path's nodes at the start
+// of the trail and leave the bytes after them; every other answer leaves the trail.
+pub fn fetch(table: &[u32], k: Prefix, trail: &mut [u8]) -> Fetched
+    ensures { λ r. ⌜ Fetch (now (table .entry)) k (now (trail .entry)) r (now (trail .exit)) ⌝ }
+{
+    let mut widths = [0u8; TRAIL];
+    let x = survey(table, k, trail.len(), &mut widths);
+    match x {
+        Surveyed::BadLength => Fetched::BadLength,
+        Surveyed::BadPrefix => Fetched::BadPrefix,
+        Surveyed::ShortOut => Fetched::ShortOut,
+        Surveyed::Damaged => Fetched::Damaged,
+        Surveyed::Path(n, s, _) => {
+            copy_first(&widths, n, trail);
+            found_at(k, n, s)
+        }
+    }
+}
+
+fn found_at(k: Prefix, n: usize, s: Walk) -> Fetched
+    requires { ⌜ k .width ≤ 128 ⌝ }
+    ensures { λ r. ⌜ r ≡ foundOf k n s ⌝ }
+{
+    if s.best == k.width + 1 {
+        return Fetched::Found(n, s.zone);
+    }
+    Fetched::Absent(n)
+}
+
+// ---- longest match
+
+// What `longest_match` answers. The first number of Match and of NoMatch is how many nodes the path
+// has; a match has its width and its zone number.
+pub enum Matched {
+    Match(usize, u32, u32),
+    NoMatch(usize),
+    BadLength,
+    BadPrefix,
+    ShortOut,
+    Damaged,
+}
+
+// The longest stored prefix of k. Match and NoMatch write the trail as `fetch` does; every other
+// answer leaves it.
+pub fn longest_match(table: &[u32], k: Prefix, trail: &mut [u8]) -> Matched
+    ensures { λ r. ⌜ LongestMatch (now (table .entry)) k (now (trail .entry)) r (now (trail .exit)) ⌝ }
+{
+    let mut widths = [0u8; TRAIL];
+    let x = survey(table, k, trail.len(), &mut widths);
+    match x {
+        Surveyed::BadLength => Matched::BadLength,
+        Surveyed::BadPrefix => Matched::BadPrefix,
+        Surveyed::ShortOut => Matched::ShortOut,
+        Surveyed::Damaged => Matched::Damaged,
+        Surveyed::Path(n, s, _) => {
+            copy_first(&widths, n, trail);
+            match_at(n, s)
+        }
+    }
+}
+
+fn match_at(n: usize, s: Walk) -> Matched
+    ensures { λ r. ⌜ r ≡ matchOf n s ⌝ }
+{
+    if s.best == 0 {
+        return Matched::NoMatch(n);
+    }
+    Matched::Match(n, s.best - 1, s.zone)
+}
+
+// ---- the walk
+
+// Where a walk stands: the links of the last three nodes that are prefixes of the key (0 for none),
+// the link to look at next, and how many bits of the key a node there must share; and the longest
+// stored prefix so far, as its width plus 1 (0 for none) and its zone number.
+pub struct Walk {
+    pub at: u32,
+    pub up: u32,
+    pub over: u32,
+    pub next: u32,
+    pub low: u32,
+    pub best: u32,
+    pub zone: u32,
+}
+
+// What a step finds: a node that is a prefix of the key, with its width and where the walk goes on;
+// a node that is none, with its width and how many bits it shares; no node; words that no table has.
+pub enum Step {
+    Down(u32, Walk),
+    Last(u32, u32),
+    End,
+    Bad,
+}
+
+// The node that a walk ends at: the last that is a prefix of the key (0 for none), or one that is
+// none, with how many bits it shares.
+pub enum Met {
+    Matching(u32),
+    Mismatching(u32, u32),
+}
+
+// What comes of surveying a key's path: how many nodes it has, where the walk stood at its end and
+// what it met there, or a refusal.
+pub enum Surveyed {
+    Path(usize, Walk, Met),
+    BadLength,
+    BadPrefix,
+    ShortOut,
+    Damaged,
+}
+
+// The refusals of a keyed call in their order, and then its walk. `room` is the length of the lent
+// trail; the widths go to a local array, since a Damaged call leaves the trail alone.
+pub fn survey(table: &[u32], k: Prefix, room: usize, widths: &mut [u8; 129]) -> Surveyed
+    ensures { λ r. ⌜ surveyOn (now (table .entry)) k room (now (widths .entry)) ≡ record { widths = now (widths .exit); out = r } ⌝ }
+{
+    if !records::is_table(table.len()) {
+        return Surveyed::BadLength;
+    }
+    if !prefix::valid(k) {
+        return Surveyed::BadPrefix;
+    }
+    if room < TRAIL {
+        return Surveyed::ShortOut;
+    }
+    walk_path(table, k, widths)
+}
+
+// Walks the path of k from the top, and writes the widths of its nodes.
+fn walk_path(table: &[u32], k: Prefix, widths: &mut [u8; 129]) -> Surveyed
+    requires { ⌜ (16 ≤ length (now table)) × (k .width ≤ 128) ⌝ }
+    ensures { λ r. ⌜ walkFrom (now (table .entry)) k (now (widths .entry)) ≡ record { widths = now (widths .exit); out = r } ⌝ }
+{
+    let h = records::read_header(table);
+    let mut n: usize = 0;
+    let mut s = Walk {
+        at: 0,
+        up: 0,
+        over: 0,
+        next: h.root,
+        low: 0,
+        best: 0,
+        zone: 0,
+    };
+    let met = loop {
+        let x = step_at(table, k, s);
+        match x {
+            Step::Down(w, d) => {
+                widths[n] = w as u8;
+                n += 1;
+                s = d;
+            }
+            Step::Last(w, b) => {
+                widths[n] = w as u8;
+                n += 1;
+                break Met::Mismatching(s.next, b);
+            }
+            Step::End => {
+                break Met::Matching(s.at);
+            }
+            Step::Bad => {
+                return Surveyed::Damaged;
+            }
+        }
+    };
+    Surveyed::Path(n, s, met)
+}
+
+// One step: the record of the next link, if there is one.
+fn step_at(table: &[u32], k: Prefix, s: Walk) -> Step
+    requires { ⌜ k .width ≤ 128 ⌝ }
+    ensures { λ r. ⌜ r ≡ stepOn (now (table .entry)) k s ⌝ }
+{
+    let next = s.next;
+    if next == 0 {
+        return Step::End;
+    }
+    if !records::has_room(table.len(), next) {
+        return Step::Bad;
+    }
+    seen(records::read_record(table, next), k, s)
+}
+
+// What a step makes of the record that it reads.
+fn seen(r: Record, k: Prefix, s: Walk) -> Step
+    requires { ⌜ k .width ≤ 128 ⌝ }
+    ensures { λ x. ⌜ x ≡ seenOn r k s ⌝ }
+{
+    let w = r.tag / 2;
+    if 128 < w {
+        return Step::Bad;
+    }
+    let b = prefix::shared(records::key_of(r), k);
+    if b < s.low {
+        return Step::Bad;
+    }
+    if b < w {
+        return Step::Last(w, b);
+    }
+    Step::Down(w, down(r, k, s))
+}
+
+// Where the walk goes on from a node that is a prefix of the key.
+fn down(r: Record, k: Prefix, s: Walk) -> Walk
+    requires { ⌜ k .width ≤ 128 ⌝ }
+    ensures { λ d. ⌜ d ≡ downOn r k s ⌝ }
+{
+    let w = r.tag / 2;
+    let next = side(r, k, w);
+    if r.tag % 2 == 1 {
+        return Walk {
+            at: s.next,
+            up: s.at,
+            over: s.up,
+            next,
+            low: w + 1,
+            best: w + 1,
+            zone: r.zone,
+        };
+    }
+    Walk {
+        at: s.next,
+        up: s.at,
+        over: s.up,
+        next,
+        low: w + 1,
+        best: s.best,
+        zone: s.zone,
+    }
+}
+
+// The link of the side that k goes on by at a node of width w, or 0 where k ends there.
+fn side(r: Record, k: Prefix, w: u32) -> u32
+    requires { ⌜ k .width ≤ 128 ⌝ }
+    ensures { λ l. ⌜ l ≡ sideOn r k w ⌝ }
+{
+    if w < k.width {
+        if prefix::bit(k, w) {
+            return r.right;
+        }
+        return r.left;
+    }
+    0
+}
+
+// Copies the first n bytes.
+pub fn copy_first(from: &[u8; 129], n: usize, to: &mut [u8])
+    requires { ⌜ (n ≤ 129) × (n ≤ length (now to)) × (length (now from) ≡ 129) ⌝ }
+    ensures { λ _. ⌜ now (to .exit) ≡ paste (now (to .entry)) 0 (now (from .entry)) n ⌝ }
+{
+    let mut i: usize = 0;
+    while i < n {
+        to[i] = from[i];
+        i += 1;
+    }
+}
