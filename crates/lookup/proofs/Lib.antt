@@ -4,5 +4,7 @@ pub mod StepsLaws
 pub mod PathsLaws
 pub mod HoldsLaws
 pub mod RestsLaws
+pub mod EndsLaws
+pub mod FramesLaws
 pub mod FetchingLaws
 pub mod MatchingLaws

@@ -26,7 +26,7 @@ use Rattle.lookup.specs.declared.Step.the-variants.{Down, Last, End}
 
 -- ---- sharedOn and sideOn: what they are at a node's record, by how the key meets the node's string
 
-getD-next : (p k : Bits) (x : Bool) → T (isPrefix (p ++ (x ∷ [])) k) → getD k (length p) false ≡ x
+pub getD-next : (p k : Bits) (x : Bool) → T (isPrefix (p ++ (x ∷ [])) k) → getD k (length p) false ≡ x
 getD-next p k x h =
     sym (getD-take (suc (length p)) k (length p) false (omega arith)) ∙ rw (take-next p k x h) (getD-append-seam p x [] false)
 

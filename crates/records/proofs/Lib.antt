@@ -1,3 +1,4 @@
 pub mod LayoutLaws
 pub mod OnceLaws
 pub mod HoldsLaws
+pub mod GraftLaws

@@ -1,15 +1,16 @@
--- The laws of how often a link stands in a list: what stands there once is a member within its bounds, and a list that has every
--- record from 1 to c once is c long. No contract cites this file.
+-- The laws of how often a link stands in a list: what stands there once is a member within its bounds,
+-- a list that has every record from 1 to c once is c long, and c different records are all of them.
+-- No contract cites this file.
 -- Assumes nothing.
 use Prim.Native.Nat.{ℕ, zero, suc, _+_, _≤_, _<_}
-use native.Mathlib.Nat.{add-assoc}
+use native.Mathlib.Decide.{decLt}
 use native.Mathlib.Omega.{arith}
 use mathlib.Core.Path.{_≡_, refl, sym, ap, _∙_}
 use mathlib.Core.Bool.{Bool, true, false, not, _&&_, cond}
 use mathlib.Core.List.{List, [], _∷_, _++_, List·Memᴰ, List·Memᴰ·head, List·Memᴰ·tail}
-use lib.Dec.{T, leb, ltb, eqb}
+use lib.Dec.{leb, ltb, eqb}
 use lib.ListN.{length}
-use borrow.Author.Tests.{eq-eqb, ne-eqb, eqb-true, eqb-false, ltb-true, leb-true, lt-ltb, le-leb, lt-leb, le-ltb, ltb-false, leb-false}
+use borrow.Author.Tests.{eq-eqb, eqb-true, eqb-false, ltb-true, leb-true, lt-ltb, le-leb, lt-leb, ltb-false, leb-false}
 use Rattle.bits.specs.Lists.{keep}
 use Rattle.records.specs.Holds.{times, Once}
 
@@ -120,3 +121,61 @@ length-once zero ls once = ap length (none-once ls once)
 length-once (suc c) ls once =
     let t : times (suc c) ls ≡ 1 = rw (once (suc c), lt-ltb 0 (suc c) (omega arith), le-leb (suc c) (suc c) (omega arith)) in
     omega (arith, length-drop-one (suc c) ls, length-once c (drop-one (suc c) ls) (once-less c ls once))
+
+-- ---- lists of different records
+
+-- no link stands there twice, and each is a record from 1 to c
+abbrev Different : List ℕ → Type 0
+Different ls = (l : ℕ) → times l ls ≤ 1
+
+abbrev Within : ℕ → List ℕ → Type 0
+Within c ls = (l : ℕ) → List·Memᴰ l ls → (0 < l) × (l ≤ c)
+
+different-drop-one : (l : ℕ) (ls : List ℕ) → Different ls → Different (drop-one l ls)
+different-drop-one l ls most j = rw (times-drop-one l j ls) (at (eqb l j))
+  where
+    at : (b : Bool) → cond b 0 (times j ls) ≤ 1
+    at true = omega arith
+    at false = most j
+
+within-drop-one : (c : ℕ) (ls : List ℕ) → Within (suc c) ls → Within c (drop-one (suc c) ls)
+within-drop-one c ls within l i = at (eqb (suc c) l) refl (rw (times-drop-one (suc c) l ls) at (mem-times l (drop-one (suc c) ls) i))
+  where
+    at : (b : Bool) → eqb (suc c) l ≡ b → 1 ≤ cond b 0 (times l ls) → (0 < l) × (l ≤ c)
+    at true e h = absurd (omega arith)
+    at false e h = let w = within l (times-mem l ls h) in let d = eqb-false (suc c) l e in (w .0, omega arith)
+
+-- of c records at most c are different
+length-different : (c : ℕ) (ls : List ℕ) → Different ls → Within c ls → length ls ≤ c
+length-different zero [] most within = omega arith
+length-different zero (a ∷ ls) most within = let w = within a (List·Memᴰ·head refl) in absurd (omega arith)
+length-different (suc c) ls most within =
+    let rest = length-different c (drop-one (suc c) ls) (different-drop-one (suc c) ls most) (within-drop-one c ls within) in
+    omega (arith, length-drop-one (suc c) ls, most (suc c))
+
+different-cons : (l : ℕ) (ls : List ℕ) → times l ls ≡ 0 → Different ls → Different (l ∷ ls)
+different-cons l ls h most j = at (eqb j l) refl
+  where
+    at : (b : Bool) → eqb j l ≡ b → cond b 1 0 + times j ls ≤ 1
+    at true e = rw (eqb-true j l e, h) (omega arith)
+    at false e = omega (arith, most j)
+
+within-cons : (c l : ℕ) (ls : List ℕ) → 0 < l → l ≤ c → Within c ls → Within c (l ∷ ls)
+within-cons c l ls h k within j (List·Memᴰ·head e) = (omega arith, omega arith)
+within-cons c l ls h k within j (List·Memᴰ·tail i) = within j i
+
+-- c different records are all of them: with one that is missing they would be one too many
+pub once-full : (c : ℕ) (ls : List ℕ) → ((l : ℕ) → times l ls ≤ 1) → ((l : ℕ) → List·Memᴰ l ls → (0 < l) × (l ≤ c)) → length ls ≡ c
+    → Once c ls
+once-full c ls most within len l = at (ltb 0 l) (leb l c) refl refl (decLt 0 (times l ls))
+  where
+    at : (a b : Bool) → ltb 0 l ≡ a → leb l c ≡ b → Dec (0 < times l ls) → times l ls ≡ cond (a && b) 1 0
+    at true true e f (yes h) = omega (arith, most l)
+    at true true e f (no h) =
+        let different = different-cons l ls (omega arith) most in
+        let inside = within-cons c l ls (ltb-true 0 l e) (leb-true l c f) within in
+        absurd (omega (arith, length-different c (l ∷ ls) different inside))
+    at true false e f (yes h) = absurd (omega (arith, leb-false l c f, within l (times-mem l ls h) .1))
+    at true false e f (no h) = omega arith
+    at false b e f (yes h) = absurd (omega (arith, ltb-false 0 l e, within l (times-mem l ls h) .0))
+    at false b e f (no h) = omega arith

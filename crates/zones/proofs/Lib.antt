@@ -7,6 +7,7 @@ pub mod WalkLaws
 pub mod FindLaws
 pub mod PutLaws
 pub mod RemoveLaws
+pub mod FocusLaws
 pub mod ShapeLaws
 pub mod SlicesLaws
 pub mod CountLaws
