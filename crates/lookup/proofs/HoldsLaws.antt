@@ -126,15 +126,23 @@ gives-cond : (b : Bool) (n z : ℕ) → cond b (Found n z) (Absent n) ≡ fetchi
 gives-cond true n z = refl
 gives-cond false n z = refl
 
-found-noted : (w n : ℕ) (k : Bits) (s : Walk) (o : Option Entry) → length k ≡ w → Noted o (s .best) (s .zone)
-    → cond (eqb (s .best) (w + 1)) (Found n (s .zone)) (Absent n) ≡ fetching.gives n (exactly o k)
-found-noted w n k s none e h = rw (h, ne-eqb 0 (w + 1) (omega arith))
-found-noted w n k s (some u) e h = rw (← e, h .0, h .1, eqb-add-one) (gives-cond (eqb (length (u .key)) (length k)) n (u .zone))
+noted-at : (w b z : ℕ) (k : Bits) (o : Option Entry) → length k ≡ w → Noted o b z → cond (eqb b (w + 1)) (some z) none ≡ exactly o k
+noted-at w b z k none e h = rw (h, ne-eqb 0 (w + 1) (omega arith))
+noted-at w b z k (some u) e h = rw (← e, h .0, h .1, eqb-add-one)
 
-foundOf-noted : (k : Prefix) (n : ℕ) (s : Walk) (o : Option Entry) → Valid k → Noted o (s .best) (s .zone)
-    → foundOf k n s ≡ fetching.gives n (exactly o (stringOf k))
+-- the number that a walk has noted for the key's own width is the one that is stored
+pub get-noted : (ws : List ℕ) (m : Map) (h : Holds ws m) (k : Prefix) (s : Walk) → Valid k
+    → Noted (best none (h .tree) (stringOf k)) (s .best) (s .zone)
+    → cond (eqb (s .best) (k .width + 1)) (some (s .zone)) none ≡ get (stringOf k) m
+get-noted ws m h k s v i =
+    noted-at (k .width) (s .best) (s .zone) (stringOf k) (best none (h .tree) (stringOf k)) (length-stringOf k (v .narrow)) i
+    ∙ find-best (stringOf k) (h .tree) none refl ∙ (rw (h .map-is) at (sym (get-entries [] (h .tree) (h .good) (stringOf k))))
+
+pub foundOf-holds : (ws : List ℕ) (k : Prefix) (m : Map) (h : Holds ws m) → Valid k → (n : ℕ) (s : Walk)
+    → Noted (best none (h .tree) (stringOf k)) (s .best) (s .zone) → foundOf k n s ≡ fetching.gives n (get (stringOf k) m)
 unfolding foundOf
-foundOf-noted k n s o v h = found-noted (k .width) n (stringOf k) s o (length-stringOf k (v .narrow)) h
+foundOf-holds ws k m h v n s i =
+    gives-cond (eqb (s .best) (k .width + 1)) n (s .zone) ∙ ap (fetching.gives n) (get-noted ws m h k s v i)
 
 matchOf-noted : (n : ℕ) (s : Walk) (o : Option Entry) → Noted o (s .best) (s .zone) → matchOf n s ≡ matching.gives n o
 unfolding matchOf
@@ -155,17 +163,14 @@ module _ (ws : List ℕ) (k : Prefix) (bs ts : List ℕ) (m : Map) (h : Holds ws
   walked-holds : Walked ts 0 (path (keys m) (stringOf k)) (best none (h .tree) (stringOf k)) left
   walked-holds = rw (path-holds ws m h (stringOf k)) (surveyOn-holds ws m h k v (length bs) ts room)
 
-  leaveOn-holds : length ts ≡ 129 → leaveOn bs (left .widths) (left .out) ≡ trail (keys m) (stringOf k) ++ drop number bs
+  pub leaveOn-holds : length ts ≡ 129 → leaveOn bs (left .widths) (left .out) ≡ trail (keys m) (stringOf k) ++ drop number bs
   unfolding trail
   leaveOn-holds e =
       leaveOn-walked bs ts (path (keys m) (stringOf k)) (best none (h .tree) (stringOf k)) left
       (omega (arith, length-path-valid m k v)) walked-holds
 
   fetchedOf-holds : fetchedOf k (left .out) ≡ fetching.gives number (get (stringOf k) m)
-  fetchedOf-holds =
-      let f : exactly (best none (h .tree) (stringOf k)) (stringOf k) ≡ get (stringOf k) m =
-      find-best (stringOf k) (h .tree) none refl ∙ (rw (h .map-is) at (sym (get-entries [] (h .tree) (h .good) (stringOf k)))) in
-      rw (walked-holds .out, zero-add, foundOf-noted k number (walked-holds .ends) (best none (h .tree) (stringOf k)) v (walked-holds .noted), f)
+  fetchedOf-holds = rw (walked-holds .out, zero-add) (foundOf-holds ws k m h v number (walked-holds .ends) (walked-holds .noted))
 
   matchedOf-holds : matchedOf (left .out) ≡ matching.gives number (longestMatch (stringOf k) m)
   matchedOf-holds =

@@ -6,15 +6,16 @@ use native.Mathlib.Omega.{arith}
 use mathlib.Core.Path.{_≡_, refl, sym, ap, ap₂, _∙_}
 use mathlib.Core.Bool.{Bool, true, false, _&&_}
 use lib.Dec.{eqb, leb}
-use lib.ListN.{length, getD, drop, length-take}
+use lib.ListN.{length, getD, take, drop, length-take}
 use lib.Seq.{take-take, getD-take}
 use borrow.Author.Tests.{le-leb, leb-true}
 use Rattle.bits.specs.Bits.{lcp, order, isPrefix, meet}
 use Rattle.bits.specs.Numbers.{bitsOf, value, clear, blank, numberOrder, orElse}
 use Rattle.bits.specs.declared.Meeting.the-variants.{Equal, Below, Above, Apart}
 use Rattle.bits.proofs.BitsLaws.{length-lcp-take, isPrefix-lcp, meet-apart, meet-above, meet-below, meet-equal}
-use Rattle.bits.proofs.BlankLaws.{take-blank, clear-drop-blank, blank-clear, blank-ext, orElse-assoc, order-take}
-use Rattle.bits.proofs.ValueLaws.{value-bitsOf}
+use Rattle.bits.proofs.BlankLaws.{length-blank, take-blank, clear-drop-blank, blank-clear, blank-ext, orElse-assoc, order-take}
+use Rattle.bits.proofs.NumbersLaws.{length-bitsOf}
+use Rattle.bits.proofs.ValueLaws.{value-bitsOf, bitsOf-value}
 use Rattle.prefix.specs.Keys.{wordBits, stringOf, isValid, Valid, cutOf, Validity, Shared, Cut}
 use Rattle.prefix.specs.declared.Prefix.{Prefix}
 use Rattle.prefix.proofs.WordsLaws.{Small, length-wordBits, order-wordBits, wordBits-inj, clear-wordBits, blank-wordBits}
@@ -118,11 +119,11 @@ shared-promise a b r e =
       right = omega arith;
     }
 
--- a prefix whose words are those of a with the bits after its width blanked
 -- a word is what its kept bits say
 word-blank : (n m x r : ℕ) → r < 2 ^ 32 → m ≡ n → bitsOf 32 r ≡ blank m (bitsOf 32 x) → r ≡ value (blank n (bitsOf 32 x))
 word-blank n m x r h q e = sym (value-bitsOf 32 r h) ∙ ap value e ∙ ap (λ (j : ℕ). value (blank j (bitsOf 32 x))) q
 
+-- a prefix whose words are those of a with the bits after its width blanked
 cut-blank : (a r : Prefix) → r ≡ cutOf a (r .width) → r .width ≤ a .width → a .width ≤ 128 → wordBits r ≡ blank (r .width) (wordBits a)
     → Cut a (r .width) r
 unfolding stringOf
@@ -147,3 +148,24 @@ cut-promise a n n1 n2 n3 r0 r1 r2 r3 g h m1 m2 m3 small e0 e1 e2 e3 =
     let q3 = word-blank (n - 96) n3 (a .w3) r3 (small .3) m3 e3 in
     cut-blank a (record { width = n; w0 = r0; w1 = r1; w2 = r2; w3 = r3 })
     (λ i. record { width = n; w0 = q0 i; w1 = q1 i; w2 = q2 i; w3 = q3 i }) h g (rw (e0, e1, e2, e3, m1, m2, m3, blank-wordBits))
+
+-- ---- cutOf
+
+bits-blank : (n x : ℕ) → bitsOf 32 (value (blank n (bitsOf 32 x))) ≡ blank n (bitsOf 32 x)
+bits-blank n x = rw (length-blank, length-bitsOf) at (bitsOf-value (blank n (bitsOf 32 x)))
+
+wordBits-cutOf : (a : Prefix) (n : ℕ) → wordBits (cutOf a n) ≡ blank n (wordBits a)
+unfolding wordBits cutOf
+wordBits-cutOf a n =
+    rw (bits-blank n (a .w0), bits-blank (n - 32) (a .w1), bits-blank (n - 64) (a .w2), bits-blank (n - 96) (a .w3), blank-wordBits)
+
+module _ (a : Prefix) (n : ℕ) (h : n ≤ a .width) (g : a .width ≤ 128) where
+  cut-cutOf : Cut a n (cutOf a n)
+  unfolding cutOf
+  cut-cutOf = cut-blank a (cutOf a n) refl h g (wordBits-cutOf a n)
+
+  pub valid-cutOf : Valid (cutOf a n)
+  valid-cutOf = cut-cutOf .valid
+
+  pub stringOf-cutOf : stringOf (cutOf a n) ≡ take n (stringOf a)
+  stringOf-cutOf = cut-cutOf .string

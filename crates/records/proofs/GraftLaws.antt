@@ -7,7 +7,7 @@ use mathlib.Core.Path.{_≡_, refl, _∙_}
 use mathlib.Core.Bool.{Bool, true, false, not}
 use mathlib.Core.List.{List, [], _∷_, _++_, List·Memᴰ, List·Memᴰ·head, List·Memᴰ·tail, Memᴰ·append-left, Memᴰ·append-right}
 use mathlib.Core.Option.{Option}
-use lib.ListN.{length}
+use lib.ListN.{length, length-append}
 use Rattle.bits.specs.Bits.{Bits}
 use Rattle.zones.specs.Maps.{Map}
 use Rattle.zones.specs.Tree.{Tree, Good, entries}
@@ -54,7 +54,7 @@ abbrev pub labelsAbove : Context ℕ → List ℕ
 labelsAbove top = []
 labelsAbove (into a s v x o c) = a ∷ (labels o ++ labelsAbove c)
 
-times-joined : (l a : ℕ) (s : Bits) (v : Option ℕ) (x : Bool) (t o : Tree ℕ)
+pub times-joined : (l a : ℕ) (s : Bits) (v : Option ℕ) (x : Bool) (t o : Tree ℕ)
     → times l (labels (joined a s v x t o)) ≡ times l (labels t) + times l (a ∷ labels o)
 times-joined l a s v false t o = omega (arith, times-append l (labels t) (labels o))
 times-joined l a s v true t o = omega (arith, times-append l (labels o) (labels t))
@@ -63,6 +63,16 @@ pub times-plug : (l : ℕ) (c : Context ℕ) (t : Tree ℕ) → times l (labels 
 times-plug l top t = omega arith
 times-plug l (into a s v x o c) t =
     omega (arith, times-plug l c (joined a s v x t o), times-joined l a s v x t o, times-append l (labels o) (labelsAbove c))
+
+pub length-joined : (a : ℕ) (s : Bits) (v : Option ℕ) (x : Bool) (t o : Tree ℕ)
+    → length (labels (joined a s v x t o)) ≡ length (labels t) + length (a ∷ labels o)
+length-joined a s v false t o = omega (arith, length-append (labels t) (labels o))
+length-joined a s v true t o = omega (arith, length-append (labels o) (labels t))
+
+pub length-plug : (c : Context ℕ) (t : Tree ℕ) → length (labels (plug c t)) ≡ length (labels t) + length (labelsAbove c)
+length-plug top t = omega arith
+length-plug (into a s v x o c) t =
+    omega (arith, length-plug c (joined a s v x t o), length-joined a s v x t o, length-append (labels o) (labelsAbove c))
 
 -- ---- Framed
 
@@ -92,7 +102,7 @@ linked-plug mem root top t h = record { link = root; framed = refl; linked = h }
 linked-plug mem root (into a s v x o c) t h =
     opened-joined mem root a s v x o c t (linked-plug mem root c (joined a s v x t o) h)
 
-linked-joined : (mem : Memory) (a : ℕ) (s : Bits) (v : Option ℕ) (x : Bool) (t o : Tree ℕ) → Bears (mem a) s v
+pub linked-joined : (mem : Memory) (a : ℕ) (s : Bits) (v : Option ℕ) (x : Bool) (t o : Tree ℕ) → Bears (mem a) s v
     → Linked mem (sideOf (mem a) x) t → Linked mem (sideOf (mem a) (not x)) o → Linked mem a (joined a s v x t o)
 linked-joined mem a s v false t o b h i = (refl, b, h, i)
 linked-joined mem a s v true t o b h i = (refl, b, i, h)

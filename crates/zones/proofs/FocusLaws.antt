@@ -12,7 +12,7 @@ use Rattle.bits.specs.declared.Meeting.{Meeting}
 use Rattle.bits.specs.declared.Meeting.the-variants.{Equal, Below, Above, Apart}
 use Rattle.bits.proofs.BitsLaws.{meet-says}
 use Rattle.zones.specs.Maps.{Entry}
-use Rattle.zones.specs.Tree.{Tree, tip, node, onward, full, Branch, Good, putTree, removeTree}
+use Rattle.zones.specs.Tree.{Tree, tip, node, onward, find, full, Branch, Good, putTree, removeTree}
 use Rattle.zones.specs.Focus.{Context, top, into, Focus, joined, plug, collapsed, pull, focus}
 
 -- ---- focus
@@ -64,6 +64,17 @@ module _ {A : Type 0} where
   focus-leads c t k =
       focus-ind k (λ c t f. Leads c k → Leads (f .above) k) (λ c t h i. i)
       (λ c a s v x t o f e h i. h (rw e at (meet-says s k), i)) c t
+
+  find-joined : (a : A) (s : Bits) (v : Option ℕ) (x : Bool) (t o : Tree A) (k : Bits) → meet s k ≡ Below x
+      → find t k ≡ find (joined a s v x t o) k
+  find-joined a s v false t o k h = rw h
+  find-joined a s v true t o k h = rw h
+
+  -- what a search finds it finds where it ends
+  pub find-focus : (c : Context A) (t : Tree A) (k : Bits) → find (focus c t k .below) k ≡ find t k
+  find-focus c t k =
+      focus-ind k (λ c t f. find (f .below) k ≡ find t k) (λ c t h. refl)
+      (λ c a s v x t o f e h. h ∙ find-joined a s v x t o k e) c t
 
   -- ---- plug
 

@@ -105,6 +105,19 @@ unfolding without
 get-without k j [] = cond-const (equal k j) none
 get-without k j (f ∷ m) = get-without-at (equal j (f .key)) k j f m refl (get-without k j m)
 
+-- ---- without
+
+-- a remove of a key that is not stored leaves the map
+pub without-none : (k : Bits) (m : Map) → get k m ≡ none → without k m ≡ m
+unfolding without
+without-none k [] h = refl
+without-none k (e ∷ m) h = at (equal k (e .key)) h (without-none k m)
+  where
+    at : (b : Bool) → cond b (some (e .zone)) (get k m) ≡ none → (get k m ≡ none → keep (λ x. not (equal k (x .key))) m ≡ m)
+        → cond (not b) (e ∷ keep (λ x. not (equal k (x .key))) m) (keep (λ x. not (equal k (x .key))) m) ≡ e ∷ m
+    at true h ih = absurd (Option·some-ne-none (e .zone) h)
+    at false h ih = ap (λ (n : Map). e ∷ n) (ih h)
+
 -- ---- two ascending maps that answer alike are one
 
 get-none : (k : Bits) (m : Map) → T (all (before k) (keys m)) → get k m ≡ none

@@ -1,0 +1,12 @@
+pub mod HangLaws
+pub mod PlanHoldsLaws
+pub mod OpenedLaws
+pub mod PutHoldsLaws
+pub mod HereLaws
+pub mod NewNodesLaws
+pub mod StoreCasesLaws
+pub mod EditedLaws
+pub mod PlanRemoveLaws
+pub mod RemoveWordsLaws
+pub mod RemoveCasesLaws
+pub mod PlanRestsLaws

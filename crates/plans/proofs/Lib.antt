@@ -1,0 +1,3 @@
+pub mod PlanningLaws
+pub mod FittingLaws
+pub mod AppliedLaws
