@@ -1,0 +1,149 @@
+-- The laws of remove: that its plan fits, one for each way out, and the one that makes the contract of the
+-- answer.
+-- No contract cites this file.
+-- Assumes nothing.
+use Prim.Native.Nat.{ℕ, suc, _+_, _≤_}
+use mathlib.Core.Path.{_≡_, refl, sym, ap, subst, _∙_}
+use mathlib.Core.Bool.{Bool, true, false, cond}
+use mathlib.Core.List.{List, [], _∷_}
+use lib.Dec.{eqb}
+use lib.ListN.{length, replicate}
+use lib.Seq.{paste}
+use borrow.Author.Tests.{eq-eqb, ne-eqb}
+use Rattle.prefix.specs.declared.Prefix.{Prefix}
+use Rattle.lookup.specs.Walking.{surveyOn, firstRefusal, leavesAll}
+use Rattle.lookup.specs.declared.Walk.{Walk}
+use Rattle.lookup.specs.declared.Met.{Met}
+use Rattle.lookup.specs.declared.Surveyed.{Surveyed}
+use Rattle.lookup.specs.declared.Surveyed.the-variants as surveyed
+use Rattle.lookup.proofs.SurveyLaws.{refusalOf, surveyOn-refusal}
+use Rattle.plans.specs.Planning.{Fitting, applied, planRemoveOn}
+use Rattle.plans.specs.declared.Plan.{Plan}
+use Rattle.plans.specs.declared.Planned.{Planned}
+use Rattle.plans.specs.declared.Planned.the-variants as planned
+use Rattle.plans.proofs.FittingLaws.{fitting-remove}
+use Rattle.edits.specs.Storing.{Edit, refused}
+use Rattle.edits.specs.Removing.{removedBy, removedOf, removeOn, numberOf, valuesOf, Remove}
+use Rattle.edits.specs.declared.Removal.{Removal}
+use Rattle.edits.specs.declared.Removal.the-variants.{Removed, Damaged, Absent}
+use Rattle.edits.proofs.RemoveHoldsLaws.{removeOn-holds}
+use Rattle.edits.proofs.StoringLaws.{holds-words}
+
+-- ---- planRemoveOn: the plan y fits
+
+pub remove-fits : (ws : List ℕ) (k : Prefix) (s : Walk) (y : Planned) (p : Plan) → 16 ≤ length ws → y ≡ planRemoveOn ws k s
+    → y ≡ planned.Go p → Fitting ws p
+remove-fits ws k s y p long d q = fitting-remove ws k s p long (sym d ∙ q)
+
+-- ---- removeOn, where the survey gives x
+
+module _ (ws : List ℕ) (k : Prefix) (bs us : List ℕ) (x : Surveyed)
+    (e : surveyOn ws k (length bs) (replicate 129 0) ≡ record { widths = us; out = x }) where
+  -- for a refusal y this is the whole answer, with the trail and the words as they were
+  pub removeOn-survey : (y : Surveyed) → x ≡ y → removeOn ws k bs ≡ removedOf ws k bs us y
+  unfolding removeOn
+  removeOn-survey y q = rw (e, q)
+
+  module _ (n : ℕ) (s : Walk) (m : Met) (q : x ≡ surveyed.Path n s m) where
+    pub removeOn-absent : (after : List ℕ) → (s .best ≡ k .width + 1 → ⊥) → after ≡ paste bs 0 us n
+        → removeOn ws k bs ≡ record { answer = Absent n; bytes = after; words = ws }
+    removeOn-absent after h g = removeOn-survey (surveyed.Path n s m) q ∙ simp (ne-eqb _ _ h, g)
+
+    module _ (y : Planned) (f : y ≡ planRemoveOn ws k s) (h : s .best ≡ k .width + 1) where
+      removeOn-plan : removeOn ws k bs ≡ removedBy ws bs us n s y
+      removeOn-plan = removeOn-survey (surveyed.Path n s m) q ∙ simp (eq-eqb _ _ h, f)
+
+      pub removeOn-damaged : y ≡ planned.Damaged → removeOn ws k bs ≡ refused Damaged bs ws
+      removeOn-damaged g = removeOn-plan ∙ rw g
+
+      pub removeOn-full : y ≡ planned.Full → removeOn ws k bs ≡ refused Damaged bs ws
+      removeOn-full g = removeOn-plan ∙ rw g
+
+      pub removeOn-go : (p : Plan) (after now : List ℕ) → y ≡ planned.Go p → after ≡ paste bs 0 us n → now ≡ applied ws p
+          → removeOn ws k bs ≡ record { answer = Removed n (s .zone); bytes = after; words = now }
+      removeOn-go p after now g i j = removeOn-plan ∙ rw (g, i, j)
+
+-- ---- what any answer of removeOn shows
+
+-- a refusal leaves the words, and one that leaves all has zero counts and leaves the bytes
+abbrev Left : List ℕ → Edit Removal → Type 0
+Left ws o = (n : ℕ) → numberOf (o .answer) ≡ suc n → o .words ≡ ws
+
+abbrev Kept : List ℕ → Edit Removal → Type 0
+Kept bs o = leavesAll (numberOf (o .answer)) ≡ true → (valuesOf (o .answer) ≡ 0 ∷ 0 ∷ []) × (o .bytes ≡ bs)
+
+module _ (ws bs ts : List ℕ) (n : ℕ) (s : Walk) where
+  removedBy-left : (y : Planned) → Left ws (removedBy ws bs ts n s y)
+  removedBy-left (planned.Go p) m h = cc
+  removedBy-left planned.Damaged m h = refl
+  removedBy-left planned.Full m h = refl
+
+  removedBy-kept : (y : Planned) → Kept bs (removedBy ws bs ts n s y)
+  unfolding leavesAll
+  removedBy-kept (planned.Go p) h = (cc, cc)
+  removedBy-kept planned.Damaged h = (refl, refl)
+  removedBy-kept planned.Full h = (refl, refl)
+
+  -- where the key is stored or not
+  removedAt-left : (b : Bool) (y : Planned)
+      → Left ws (cond b (removedBy ws bs ts n s y) (record { answer = Absent n; bytes = paste bs 0 ts n; words = ws }))
+  removedAt-left true y m h = removedBy-left y m h
+  removedAt-left false y m h = refl
+
+  removedAt-kept : (b : Bool) (y : Planned)
+      → Kept bs (cond b (removedBy ws bs ts n s y) (record { answer = Absent n; bytes = paste bs 0 ts n; words = ws }))
+  unfolding leavesAll
+  removedAt-kept true y h = removedBy-kept y h
+  removedAt-kept false y h = (cc, cc)
+
+module _ (ws : List ℕ) (k : Prefix) (bs ts : List ℕ) where
+  removedOf-number : (x : Surveyed) (n : ℕ) → refusalOf x ≡ suc n → numberOf (removedOf ws k bs ts x .answer) ≡ suc n
+  removedOf-number (surveyed.Path n s e) m h = cc
+  removedOf-number surveyed.BadLength m h = h
+  removedOf-number surveyed.BadPrefix m h = h
+  removedOf-number surveyed.ShortOut m h = h
+  removedOf-number surveyed.Damaged m h = h
+
+  removedOf-left : (x : Surveyed) → Left ws (removedOf ws k bs ts x)
+  removedOf-left (surveyed.Path n s e) m h = removedAt-left ws bs ts n s (eqb (s .best) (k .width + 1)) (planRemoveOn ws k s) m h
+  removedOf-left surveyed.BadLength m h = refl
+  removedOf-left surveyed.BadPrefix m h = refl
+  removedOf-left surveyed.ShortOut m h = refl
+  removedOf-left surveyed.Damaged m h = refl
+
+  removedOf-kept : (x : Surveyed) → Kept bs (removedOf ws k bs ts x)
+  removedOf-kept (surveyed.Path n s e) h = removedAt-kept ws bs ts n s (eqb (s .best) (k .width + 1)) (planRemoveOn ws k s) h
+  removedOf-kept surveyed.BadLength h = (refl, refl)
+  removedOf-kept surveyed.BadPrefix h = (refl, refl)
+  removedOf-kept surveyed.ShortOut h = (refl, refl)
+  removedOf-kept surveyed.Damaged h = (refl, refl)
+
+module _ (ws : List ℕ) (k : Prefix) (bs : List ℕ) where
+  removeOn-number : (n : ℕ) → firstRefusal ws k (length bs) ≡ suc n → numberOf (removeOn ws k bs .answer) ≡ suc n
+  unfolding removeOn
+  removeOn-number n h =
+      let v = surveyOn ws k (length bs) (replicate 129 0) in
+      removedOf-number ws k bs (v .widths) (v .out) n (surveyOn-refusal ws k (length bs) (replicate 129 0) n h)
+
+  removeOn-left : Left ws (removeOn ws k bs)
+  unfolding removeOn
+  removeOn-left = let v = surveyOn ws k (length bs) (replicate 129 0) in removedOf-left ws k bs (v .widths) (v .out)
+
+  removeOn-kept : Kept bs (removeOn ws k bs)
+  unfolding removeOn
+  removeOn-kept = let v = surveyOn ws k (length bs) (replicate 129 0) in removedOf-kept ws k bs (v .widths) (v .out)
+
+-- ---- the contract
+
+pub remove-promise : (ws : List ℕ) (k : Prefix) (bs : List ℕ) (r : Removal) (us after : List ℕ)
+    → removeOn ws k bs ≡ record { answer = r; bytes = after; words = us } → Remove ws k bs r us after
+remove-promise ws k bs r us after e =
+    record {
+      answer = e;
+      refusal = λ n h. ap (λ (o : Edit Removal). numberOf (o .answer)) (sym e) ∙ removeOn-number ws k bs n h;
+      left = subst (Left ws) e (removeOn-left ws k bs);
+      kept = subst (Kept bs) e (removeOn-kept ws k bs);
+      meaning = λ m h v g. ap (λ (o : Edit Removal). o .answer) (sym e) ∙ removeOn-holds ws k bs m h v g .answer;
+      written = λ m h v g. ap (λ (o : Edit Removal). o .bytes) (sym e) ∙ removeOn-holds ws k bs m h v g .bytes;
+      holds = λ m h v g. holds-words (ap (λ (o : Edit Removal). o .words) e) (removeOn-holds ws k bs m h v g .holds);
+    }

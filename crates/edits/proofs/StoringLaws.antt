@@ -1,0 +1,180 @@
+-- The laws of store: what a survey with a path tells, that its plan fits, one law for each way out, and the
+-- one that makes the contract of the answer.
+-- No contract cites this file.
+-- Assumes nothing.
+use Prim.Native.Nat.{ℕ, suc, _+_, _≤_}
+use mathlib.Core.Path.{_≡_, refl, sym, ap, subst, _∙_}
+use mathlib.Core.Bool.{Bool, true, false, cond}
+use mathlib.Core.List.{List, [], _∷_}
+use lib.Dec.{eqb}
+use lib.ListN.{length, replicate}
+use lib.Seq.{paste}
+use borrow.Author.Tests.{eq-eqb, ne-eqb}
+use Rattle.prefix.specs.declared.Prefix.{Prefix}
+use Rattle.zones.specs.Maps.{Map}
+use Rattle.records.specs.Holds.{Holds}
+use Rattle.records.proofs.LayoutLaws.{isTable-true}
+use Rattle.lookup.specs.Walking.{Survey, walkFrom, surveyOn, firstRefusal, leavesAll}
+use Rattle.lookup.specs.declared.Walk.{Walk}
+use Rattle.lookup.specs.declared.Met.{Met}
+use Rattle.lookup.specs.declared.Surveyed.{Surveyed}
+use Rattle.lookup.specs.declared.Surveyed.the-variants as surveyed
+use Rattle.lookup.proofs.SurveyLaws.{surveyOn-cases, refusalOf, surveyOn-refusal}
+use Rattle.plans.specs.Planning.{Fitting, applied, planStoreOn}
+use Rattle.plans.specs.declared.Plan.{Plan}
+use Rattle.plans.specs.declared.Planned.{Planned}
+use Rattle.plans.specs.declared.Planned.the-variants as planned
+use Rattle.plans.proofs.FittingLaws.{fitting-store}
+use Rattle.edits.specs.Storing.{Edit, refused, acceptedOf, storedBy, storedOf, storeOn, numberOf, valuesOf, Store}
+use Rattle.edits.specs.declared.Stored.{Stored}
+use Rattle.edits.specs.declared.Stored.the-variants.{Added, Replaced, Damaged, Full}
+use Rattle.edits.proofs.StoreHoldsLaws.{storeOn-holds}
+
+-- ---- surveyOn: words with a path are long enough for a header and a record
+
+abbrev Long : List ℕ → Surveyed → Type 0
+Long ws (surveyed.Path n s e) = 16 ≤ length ws
+Long ws surveyed.BadLength = Unit {0}
+Long ws surveyed.BadPrefix = Unit {0}
+Long ws surveyed.ShortOut = Unit {0}
+Long ws surveyed.Damaged = Unit {0}
+
+long-any : (ws : List ℕ) (x : Surveyed) → 16 ≤ length ws → Long ws x
+long-any ws (surveyed.Path n s e) h = h
+long-any ws surveyed.BadLength h = tt
+long-any ws surveyed.BadPrefix h = tt
+long-any ws surveyed.ShortOut h = tt
+long-any ws surveyed.Damaged h = tt
+
+module _ (ws : List ℕ) (k : Prefix) (room : ℕ) (ts us : List ℕ) (x : Surveyed) (n : ℕ) (s : Walk) (y : Met) where
+  pub surveyOn-long : surveyOn ws k room ts ≡ record { widths = us; out = x } → x ≡ surveyed.Path n s y → 16 ≤ length ws
+  surveyOn-long e q =
+      let all : Long ws (surveyOn ws k room ts .out) =
+      surveyOn-cases ws k room ts (λ v. Long ws (v .out)) (λ a. tt) (λ a b. tt) (λ a b c. tt)
+      (λ a b c. long-any ws (walkFrom ws k ts .out) (isTable-true (length ws) a .least)) in
+      subst (Long ws) (ap (λ (v : Survey). v .out) e ∙ q) all
+
+-- ---- planStoreOn: the plan y fits
+
+pub store-fits : (ws : List ℕ) (k : Prefix) (z : ℕ) (s : Walk) (e : Met) (y : Planned) (p : Plan) → 16 ≤ length ws
+    → y ≡ planStoreOn ws k z s e → y ≡ planned.Go p → Fitting ws p
+store-fits ws k z s e y p long d q = fitting-store ws k z s e p long (sym d ∙ q)
+
+-- ---- acceptedOf
+
+module _ (k : Prefix) (n : ℕ) (s : Walk) where
+  pub acceptedOf-replaced : s .best ≡ k .width + 1 → Replaced n (s .zone) ≡ acceptedOf k n s
+  unfolding acceptedOf
+  acceptedOf-replaced h = simp (eq-eqb _ _ h)
+
+  pub acceptedOf-added : (s .best ≡ k .width + 1 → ⊥) → Added n ≡ acceptedOf k n s
+  unfolding acceptedOf
+  acceptedOf-added h = simp (ne-eqb _ _ h)
+
+  numberOf-acceptedOf : numberOf (acceptedOf k n s) ≡ 0
+  unfolding acceptedOf
+  numberOf-acceptedOf = at (eqb (s .best) (k .width + 1))
+    where
+      at : (b : Bool) → numberOf (cond b (Replaced n (s .zone)) (Added n)) ≡ 0
+      at true = refl
+      at false = refl
+
+-- ---- storeOn, where the survey gives x
+
+module _ (ws : List ℕ) (k : Prefix) (z : ℕ) (bs us : List ℕ) (x : Surveyed)
+    (e : surveyOn ws k (length bs) (replicate 129 0) ≡ record { widths = us; out = x }) where
+  -- for a refusal y this is the whole answer, with the trail and the words as they were
+  pub storeOn-survey : (y : Surveyed) → x ≡ y → storeOn ws k z bs ≡ storedOf ws k z bs us y
+  unfolding storeOn
+  storeOn-survey y q = rw (e, q)
+
+  module _ (n : ℕ) (s : Walk) (m : Met) (q : x ≡ surveyed.Path n s m) (y : Planned) (f : y ≡ planStoreOn ws k z s m) where
+    storeOn-plan : storeOn ws k z bs ≡ storedBy ws k bs us n s y
+    storeOn-plan = storeOn-survey (surveyed.Path n s m) q ∙ ap (storedBy ws k bs us n s) (sym f)
+
+    pub storeOn-damaged : y ≡ planned.Damaged → storeOn ws k z bs ≡ refused Damaged bs ws
+    storeOn-damaged g = storeOn-plan ∙ rw g
+
+    pub storeOn-full : (after : List ℕ) → y ≡ planned.Full → after ≡ paste bs 0 us n
+        → storeOn ws k z bs ≡ record { answer = Full n; bytes = after; words = ws }
+    storeOn-full after g h = storeOn-plan ∙ rw (g, h)
+
+    pub storeOn-go : (p : Plan) (r : Stored) (after now : List ℕ) → y ≡ planned.Go p → r ≡ acceptedOf k n s → after ≡ paste bs 0 us n
+        → now ≡ applied ws p → storeOn ws k z bs ≡ record { answer = r; bytes = after; words = now }
+    storeOn-go p r after now g h i j = storeOn-plan ∙ rw (g, h, i, j)
+
+-- ---- what any answer of storeOn shows
+
+-- a refusal leaves the words, and one that leaves all has zero counts and leaves the bytes
+abbrev Left : List ℕ → Edit Stored → Type 0
+Left ws o = (n : ℕ) → numberOf (o .answer) ≡ suc n → o .words ≡ ws
+
+abbrev Kept : List ℕ → Edit Stored → Type 0
+Kept bs o = leavesAll (numberOf (o .answer)) ≡ true → (valuesOf (o .answer) ≡ 0 ∷ 0 ∷ 0 ∷ []) × (o .bytes ≡ bs)
+
+module _ (ws : List ℕ) (k : Prefix) (bs ts : List ℕ) (n : ℕ) (s : Walk) where
+  storedBy-left : (y : Planned) → Left ws (storedBy ws k bs ts n s y)
+  storedBy-left (planned.Go p) m h = let f : 0 ≡ suc m = sym (numberOf-acceptedOf k n s) ∙ h in cc
+  storedBy-left planned.Damaged m h = refl
+  storedBy-left planned.Full m h = refl
+
+  storedBy-kept : (y : Planned) → Kept bs (storedBy ws k bs ts n s y)
+  unfolding leavesAll
+  storedBy-kept (planned.Go p) h = let f : false ≡ true = ap leavesAll (sym (numberOf-acceptedOf k n s)) ∙ h in (cc, cc)
+  storedBy-kept planned.Damaged h = (refl, refl)
+  storedBy-kept planned.Full h = (cc, cc)
+
+module _ (ws : List ℕ) (k : Prefix) (z : ℕ) (bs ts : List ℕ) where
+  storedOf-number : (x : Surveyed) (n : ℕ) → refusalOf x ≡ suc n → numberOf (storedOf ws k z bs ts x .answer) ≡ suc n
+  storedOf-number (surveyed.Path n s e) m h = cc
+  storedOf-number surveyed.BadLength m h = h
+  storedOf-number surveyed.BadPrefix m h = h
+  storedOf-number surveyed.ShortOut m h = h
+  storedOf-number surveyed.Damaged m h = h
+
+  storedOf-left : (x : Surveyed) → Left ws (storedOf ws k z bs ts x)
+  storedOf-left (surveyed.Path n s e) m h = storedBy-left ws k bs ts n s (planStoreOn ws k z s e) m h
+  storedOf-left surveyed.BadLength m h = refl
+  storedOf-left surveyed.BadPrefix m h = refl
+  storedOf-left surveyed.ShortOut m h = refl
+  storedOf-left surveyed.Damaged m h = refl
+
+  storedOf-kept : (x : Surveyed) → Kept bs (storedOf ws k z bs ts x)
+  storedOf-kept (surveyed.Path n s e) h = storedBy-kept ws k bs ts n s (planStoreOn ws k z s e) h
+  storedOf-kept surveyed.BadLength h = (refl, refl)
+  storedOf-kept surveyed.BadPrefix h = (refl, refl)
+  storedOf-kept surveyed.ShortOut h = (refl, refl)
+  storedOf-kept surveyed.Damaged h = (refl, refl)
+
+module _ (ws : List ℕ) (k : Prefix) (z : ℕ) (bs : List ℕ) where
+  storeOn-number : (n : ℕ) → firstRefusal ws k (length bs) ≡ suc n → numberOf (storeOn ws k z bs .answer) ≡ suc n
+  unfolding storeOn
+  storeOn-number n h =
+      let v = surveyOn ws k (length bs) (replicate 129 0) in
+      storedOf-number ws k z bs (v .widths) (v .out) n (surveyOn-refusal ws k (length bs) (replicate 129 0) n h)
+
+  storeOn-left : Left ws (storeOn ws k z bs)
+  unfolding storeOn
+  storeOn-left = let v = surveyOn ws k (length bs) (replicate 129 0) in storedOf-left ws k z bs (v .widths) (v .out)
+
+  storeOn-kept : Kept bs (storeOn ws k z bs)
+  unfolding storeOn
+  storeOn-kept = let v = surveyOn ws k (length bs) (replicate 129 0) in storedOf-kept ws k z bs (v .widths) (v .out)
+
+-- ---- the contract
+
+pub holds-words : {us ws : List ℕ} {m : Map} → us ≡ ws → Holds us m → Holds ws m
+holds-words {m = m} e h = subst (λ (x : List ℕ). Holds x m) e h
+
+pub store-promise : (ws : List ℕ) (k : Prefix) (z : ℕ) (bs : List ℕ) (r : Stored) (us after : List ℕ)
+    → storeOn ws k z bs ≡ record { answer = r; bytes = after; words = us } → Store ws k z bs r us after
+store-promise ws k z bs r us after e =
+    record {
+      answer = e;
+      refusal = λ n h. ap (λ (o : Edit Stored). numberOf (o .answer)) (sym e) ∙ storeOn-number ws k z bs n h;
+      left = subst (Left ws) e (storeOn-left ws k z bs);
+      kept = subst (Kept bs) e (storeOn-kept ws k z bs);
+      meaning = λ m h v g. ap (λ (o : Edit Stored). o .answer) (sym e) ∙ storeOn-holds ws k z bs m h v g .answer;
+      written = λ m h v g. ap (λ (o : Edit Stored). o .bytes) (sym e) ∙ storeOn-holds ws k z bs m h v g .bytes;
+      holds = λ m h v g. holds-words (ap (λ (o : Edit Stored). o .words) e) (storeOn-holds ws k z bs m h v g .holds);
+    }
