@@ -1,0 +1,11 @@
+pub mod TouringLaws
+pub mod Items
+pub mod EntriesLaws
+pub mod PendingLaws
+pub mod TourLaws
+pub mod SliceItemsLaws
+pub mod PushLaws
+pub mod SoughtLaws
+pub mod SeekLaws
+pub mod HoldsLaws
+pub mod SlicingLaws

@@ -1,0 +1,414 @@
+-- The laws of the tour: one for each way out of its functions, what a step on the way to the resume prefix
+-- shows of widths, the equations of the way and of the tour, and the bounds on what they answer.
+-- No contract cites this file.
+-- Assumes nothing.
+use Prim.Native.Nat.{ℕ, zero, suc, _+_, _-_, _/_, _%_, _≤_, _<_}
+use native.Mathlib.Nat.{le-refl, le-trans}
+use native.Mathlib.Omega.{arith}
+use mathlib.Core.Path.{_≡_, refl, sym, ap, subst, _∙_}
+use mathlib.Core.Bool.{Bool, true, false, not, cond}
+use mathlib.Core.List.{List}
+use lib.Dec.{ltb, eqb}
+use lib.ListN.{length, getD, set}
+use borrow.Author.Tests.{ltb-false, eqb-false, not-true, not-false, lt-ltb, le-ltb, le-leb, lt-leb, eq-eqb, ne-eqb}
+use Rattle.bits.specs.Bits.{lcp}
+use Rattle.bits.specs.Numbers.{odd}
+use Rattle.bits.proofs.BitsLaws.{length-lcp}
+use Rattle.prefix.specs.Keys.{stringOf, Shared}
+use Rattle.prefix.specs.declared.Prefix.{Prefix}
+use Rattle.prefix.proofs.KeysLaws.{length-stringOf}
+use Rattle.records.specs.Layout.{roomOf, Inside, recordAt, headerAt, keyOf}
+use Rattle.records.specs.declared.Record.{Record}
+use Rattle.records.specs.declared.Header.{Header}
+use Rattle.records.proofs.LayoutLaws.{inside-roomOf}
+use Rattle.listing.specs.Touring.{Stack, pushOn, popOn, partedOf, passedOf, soughtOf, soughtOn, Seeking, afterOn, seekOn, seekFrom, startOn, visitOn, Entries, entrySet, entryPut, Touring, ends, nodeOn, turnOn, tourOn, tourFrom}
+use Rattle.listing.specs.declared.Resume.{Resume}
+use Rattle.listing.specs.declared.Resume.the-variants.{Start, After}
+use Rattle.listing.specs.declared.Seek.{Seek}
+use Rattle.listing.specs.declared.Seek.the-variants as seek
+use Rattle.listing.specs.declared.Sought.{Sought}
+use Rattle.listing.specs.declared.Sought.the-variants as sought
+use Rattle.listing.specs.declared.Toured.{Toured}
+use Rattle.listing.specs.declared.Toured.the-variants as toured
+use Rattle.listing.specs.declared.Visit.{Visit}
+use Rattle.listing.specs.declared.Visit.the-variants as visit
+use Rattle.listing.specs.declared.Tour.{Tour}
+
+-- ---- pushOn
+
+module _ (ls : List ℕ) (o l : ℕ) where
+  pub pushOn-none : l ≡ 0 → pushOn ls o l ≡ record { links = ls; depth = o }
+  unfolding pushOn
+  pushOn-none h = simp (eq-eqb _ _ h)
+
+  pub pushOn-full : (l ≡ 0 → ⊥) → 129 ≤ o → pushOn ls o l ≡ record { links = ls; depth = 130 }
+  unfolding pushOn
+  pushOn-full h g = simp (ne-eqb _ _ h, le-leb _ _ g)
+
+  pub pushOn-room : (l ≡ 0 → ⊥) → o < 129 → pushOn ls o l ≡ record { links = set ls o l; depth = o + 1 }
+  unfolding pushOn
+  pushOn-room h g = simp (ne-eqb _ _ h, lt-leb _ _ g)
+
+-- ---- popOn
+
+module _ (ls : List ℕ) (at o : ℕ) where
+  pub popOn-given : (at ≡ 0 → ⊥) → record { next = at; depth = o } ≡ popOn ls at o
+  unfolding popOn
+  popOn-given h = simp (ne-eqb _ _ h)
+
+  pub popOn-none : at ≡ 0 → o ≡ 0 → record { next = 0; depth = o } ≡ popOn ls at o
+  unfolding popOn
+  popOn-none h g = simp (eq-eqb _ _ h, eq-eqb _ _ g)
+
+  pub popOn-last : at ≡ 0 → (o ≡ 0 → ⊥) → record { next = getD ls (o - 1) 0; depth = o - 1 } ≡ popOn ls at o
+  unfolding popOn
+  popOn-last h g = simp (eq-eqb _ _ h, ne-eqb _ _ g)
+
+-- what a step shows of widths: the node found is at most 128 wide, and no less than what it must share
+abbrev Widens : ℕ → Sought → Type 0
+Widens low (sought.On l w side) = (low < w) × (w ≤ 129)
+Widens low (sought.Done l side) = low ≤ 128
+Widens low sought.Bad = Unit {0}
+
+-- ---- partedOf
+
+module _ (k : Prefix) (l b : ℕ) where
+  pub partedOf-before : (x : Bool) → x ≡ getD (stringOf k) b false → b < k .width → x ≡ true → sought.Done 0 0 ≡ partedOf k l b
+  unfolding partedOf
+  partedOf-before x e h t = simp (lt-ltb _ _ h, ← e, t)
+
+  pub partedOf-after : (x : Bool) → x ≡ getD (stringOf k) b false → b < k .width → x ≡ false → sought.Done l 0 ≡ partedOf k l b
+  unfolding partedOf
+  partedOf-after x e h t = simp (lt-ltb _ _ h, ← e, t)
+
+  pub partedOf-end : k .width ≤ b → sought.Done l 0 ≡ partedOf k l b
+  unfolding partedOf
+  partedOf-end h = simp (le-ltb _ _ h)
+
+  partedOf-widens : (low : ℕ) → low ≤ 128 → Widens low (partedOf k l b)
+  unfolding partedOf
+  partedOf-widens low h = at (ltb b (k .width)) (getD (stringOf k) b false)
+    where
+      at : (x y : Bool) → Widens low (cond x (cond y (sought.Done 0 0) (sought.Done l 0)) (sought.Done l 0))
+      at true true = h
+      at true false = h
+      at false y = h
+
+-- ---- passedOf
+
+module _ (r : Record) (k : Prefix) (w : ℕ) where
+  pub passedOf-right : (x : Bool) → x ≡ getD (stringOf k) w false → w < k .width → x ≡ true → sought.On (r .right) (w + 1) 0 ≡ passedOf r k w
+  unfolding passedOf
+  passedOf-right x e h t = simp (lt-ltb _ _ h, ← e, t)
+
+  pub passedOf-left : (x : Bool) → x ≡ getD (stringOf k) w false → w < k .width → x ≡ false
+      → sought.On (r .left) (w + 1) (r .right) ≡ passedOf r k w
+  unfolding passedOf
+  passedOf-left x e h t = simp (lt-ltb _ _ h, ← e, t)
+
+  pub passedOf-end : k .width ≤ w → sought.Done (r .left) (r .right) ≡ passedOf r k w
+  unfolding passedOf
+  passedOf-end h = simp (le-ltb _ _ h)
+
+  passedOf-widens : (low : ℕ) → low ≤ w → w ≤ 128 → Widens low (passedOf r k w)
+  unfolding passedOf
+  passedOf-widens low h g = at (ltb w (k .width)) (getD (stringOf k) w false)
+    where
+      at : (x y : Bool) → Widens low
+          (cond x (cond y (sought.On (r .right) (w + 1) 0) (sought.On (r .left) (w + 1) (r .right))) (sought.Done (r .left) (r .right)))
+      at true true = (omega arith, omega arith)
+      at true false = (omega arith, omega arith)
+      at false y = le-trans h g
+
+-- ---- soughtOf
+
+-- the bits that a record's key shares with k
+abbrev sharedOf : Record → Prefix → ℕ
+sharedOf r k = length (lcp (stringOf (keyOf r)) (stringOf k))
+
+sharedOf-shared : (r : Record) (k p : Prefix) (b : ℕ) → Shared p k b → p ≡ keyOf r → sharedOf r k ≡ b
+sharedOf-shared r k p b h e = rw (← e) (sym (h .answer))
+
+sharedOf-most : (r : Record) (k : Prefix) → r .tag / 2 ≤ 128 → sharedOf r k ≤ r .tag / 2
+unfolding keyOf
+sharedOf-most r k h = omega (arith, length-lcp (stringOf (keyOf r)) (stringOf k), length-stringOf (keyOf r) h)
+
+module _ (r : Record) (k : Prefix) (l low : ℕ) where
+  pub soughtOf-wide : 128 < r .tag / 2 → sought.Bad ≡ soughtOf r k l low
+  unfolding soughtOf
+  soughtOf-wide h = simp (lt-ltb _ _ h)
+
+  soughtOf-widens : Widens low (soughtOf r k l low)
+  unfolding soughtOf
+  soughtOf-widens = at (ltb 128 w) (ltb (sharedOf r k) low) (ltb (sharedOf r k) w) refl refl
+    where
+      w : ℕ
+      w = r .tag / 2
+
+      at : (x y z : Bool) → ltb 128 w ≡ x → ltb (sharedOf r k) low ≡ y
+          → Widens low (cond x sought.Bad (cond y sought.Bad (cond z (partedOf k l (sharedOf r k)) (passedOf r k w))))
+      at true y z p q = tt
+      at false true z p q = tt
+      at false false true p q =
+          partedOf-widens k l (sharedOf r k) low (le-trans (ltb-false _ _ q) (le-trans (sharedOf-most r k (ltb-false _ _ p)) (ltb-false _ _ p)))
+      at false false false p q =
+          passedOf-widens r k w low (le-trans (ltb-false _ _ q) (sharedOf-most r k (ltb-false _ _ p))) (ltb-false _ _ p)
+
+module _ (r : Record) (k : Prefix) (l low : ℕ) (p : Prefix) (b : ℕ) (h : Shared p k b) (e : p ≡ keyOf r) (w : r .tag / 2 ≤ 128) where
+  pub soughtOf-low : b < low → sought.Bad ≡ soughtOf r k l low
+  unfolding soughtOf
+  soughtOf-low g = simp (sharedOf-shared r k p b h e, le-ltb _ _ w, lt-ltb _ _ g)
+
+  pub soughtOf-parted : (x : Sought) → low ≤ b → b < r .tag / 2 → x ≡ partedOf k l b → x ≡ soughtOf r k l low
+  unfolding soughtOf
+  soughtOf-parted x g f q = simp (sharedOf-shared r k p b h e, le-ltb _ _ w, le-ltb _ _ g, lt-ltb _ _ f, q)
+
+  pub soughtOf-passed : (x : Sought) → low ≤ b → r .tag / 2 ≤ b → x ≡ passedOf r k (r .tag / 2) → x ≡ soughtOf r k l low
+  unfolding soughtOf
+  soughtOf-passed x g f q = simp (sharedOf-shared r k p b h e, le-ltb _ _ w, le-ltb _ _ g, le-ltb _ _ f, q)
+
+-- ---- soughtOn
+
+pub inside-tested : (ws : List ℕ) (l : ℕ) (x : Bool) → x ≡ roomOf (length ws) l → not x ≡ false → Inside ws l
+inside-tested ws l x e t = inside-roomOf ws l (sym e ∙ not-false x t)
+
+module _ (ws : List ℕ) (k : Prefix) (l low : ℕ) where
+  pub soughtOn-outside : (x : Bool) → x ≡ roomOf (length ws) l → not x ≡ true → sought.Bad ≡ soughtOn ws k l low
+  unfolding soughtOn
+  soughtOn-outside x e t = simp (← e, not-true x t)
+
+  pub soughtOn-inside : (x : Bool) (r : Record) (y : Sought) → x ≡ roomOf (length ws) l → r ≡ recordAt ws l → not x ≡ false
+      → y ≡ soughtOf r k l low → y ≡ soughtOn ws k l low
+  unfolding soughtOn
+  soughtOn-inside x r y e q t g = simp (← e, not-false x t, ← q, g)
+
+  soughtOn-widens : Widens low (soughtOn ws k l low)
+  unfolding soughtOn
+  soughtOn-widens = at (roomOf (length ws) l)
+    where
+      at : (x : Bool) → Widens low (cond x (soughtOf (recordAt ws l) k l low) sought.Bad)
+      at true = soughtOf-widens (recordAt ws l) k l low
+      at false = tt
+
+  pub soughtOn-on : (x : Sought) (m w side : ℕ) → x ≡ soughtOn ws k l low → x ≡ sought.On m w side → (low < w) × (w ≤ 129)
+  soughtOn-on x m w side e q = subst (Widens low) (sym e ∙ q) soughtOn-widens
+
+-- ---- seekOn, where a way that has the value v goes on after n nodes
+
+module _ (ws : List ℕ) (k : Prefix) (l low n : ℕ) (ls : List ℕ) (o : ℕ) (v : Seeking) where
+  pub seekOn-end : (f : ℕ) → seekOn f ws k l low n ls o ≡ v → l ≡ 0 → v ≡ record { links = ls; out = seek.At 0 o n }
+  unfolding seekOn
+  seekOn-end zero i h = sym i ∙ simp (eq-eqb _ _ h)
+  seekOn-end (suc f) i h = sym i ∙ simp (eq-eqb _ _ h)
+
+  -- and its step is x
+  module _ (x : Sought) (e : x ≡ soughtOn ws k l low) (i : seekOn (130 - n) ws k l low n ls o ≡ v) (h : n ≤ 129) (z : l ≡ 0 → ⊥) where
+    seekOn-step : v ≡ afterOn x ls o n (λ m w s. seekOn (130 - (n + 1)) ws k m w (n + 1) (s .links) (s .depth))
+    unfolding seekOn
+    seekOn-step =
+        let f : 130 - n ≡ suc (130 - (n + 1)) = omega arith in
+        sym i ∙ ap (λ (m : ℕ). seekOn m ws k l low n ls o) f ∙ simp (ne-eqb _ _ z, ← e)
+
+    pub seekOn-bad : x ≡ sought.Bad → v ≡ record { links = ls; out = seek.Bad }
+    unfolding afterOn
+    seekOn-bad q = seekOn-step ∙ rw q
+
+    pub seekOn-done : (m side : ℕ) (ms : List ℕ) (d : ℕ) → x ≡ sought.Done m side → pushOn ls o side ≡ record { links = ms; depth = d }
+        → v ≡ record { links = ms; out = seek.At m d (n + 1) }
+    unfolding afterOn
+    seekOn-done m side ms d q p = seekOn-step ∙ rw (q, p)
+
+    pub seekOn-on : (m w side : ℕ) (ms : List ℕ) (d : ℕ) → x ≡ sought.On m w side → pushOn ls o side ≡ record { links = ms; depth = d }
+        → seekOn (130 - (n + 1)) ws k m w (n + 1) ms d ≡ v
+    unfolding afterOn
+    seekOn-on m w side ms d q p = sym (seekOn-step ∙ rw (q, p))
+
+-- the resume's path has at most 129 nodes
+abbrev pub Short : Seek → Type 0
+Short (seek.At l o n) = n ≤ 129
+Short seek.Bad = Unit {0}
+
+afterOn-short : (low n : ℕ) (ls : List ℕ) (o : ℕ) (go : ℕ → ℕ → Stack → Seeking) (x : Sought) → Widens low x → n ≤ low
+    → ((m w : ℕ) (s : Stack) → n + 1 ≤ w → w ≤ 129 → Short (go m w s .out)) → Short (afterOn x ls o n go .out)
+unfolding afterOn
+afterOn-short low n ls o go (sought.On m w side) g h rec = rec m w (pushOn ls o side) (omega arith) (omega arith)
+afterOn-short low n ls o go (sought.Done m side) g h rec = omega arith
+afterOn-short low n ls o go sought.Bad g h rec = tt
+
+seekOn-short : (f : ℕ) (ws : List ℕ) (k : Prefix) (l low n : ℕ) (ls : List ℕ) (o : ℕ) → n ≤ low → low ≤ 129
+    → Short (seekOn f ws k l low n ls o .out)
+unfolding seekOn
+seekOn-short zero ws k l low n ls o h g = at (eqb l 0)
+  where
+    at : (x : Bool) → Short (cond x (seek.At 0 o n) seek.Bad)
+    at true = le-trans h g
+    at false = tt
+seekOn-short (suc f) ws k l low n ls o h g =
+    let go : ℕ → ℕ → Stack → Seeking = λ m w s. seekOn f ws k m w (n + 1) (s .links) (s .depth) in
+    at (eqb l 0) (afterOn (soughtOn ws k l low) ls o n go)
+    (afterOn-short low n ls o go (soughtOn ws k l low) (soughtOn-widens ws k l low) h
+    (λ m w s. seekOn-short f ws k m w (n + 1) (s .links) (s .depth)))
+  where
+    at : (x : Bool) (v : Seeking) → Short (v .out) → Short (cond x (record { links = ls; out = seek.At 0 o n }) v .out)
+    at true v s = le-trans h g
+    at false v s = s
+
+-- ---- seekFrom
+
+pub seekFrom-short : (ws : List ℕ) (k : Prefix) (root : ℕ) (ls : List ℕ) → Short (seekFrom ws k root ls .out)
+unfolding seekFrom
+seekFrom-short ws k root ls = seekOn-short 130 ws k root 0 0 ls 0 (le-refl 0) (omega arith)
+
+-- ---- startOn
+
+pub startOn-start : (ws ls : List ℕ) (r : Resume) (h : Header) → h ≡ headerAt ws → r ≡ Start
+    → startOn ws r ls ≡ record { links = ls; out = seek.At (h .root) 0 0 }
+startOn-start ws ls r h e q = rw (q, e)
+
+pub startOn-after : (ws ls : List ℕ) (r : Resume) (h : Header) (k : Prefix) (x : Seeking) → h ≡ headerAt ws → r ≡ After k
+    → seekFrom ws k (h .root) ls ≡ x → startOn ws r ls ≡ x
+startOn-after ws ls r h k x e q g = rw q (rw (← e) g)
+
+startOn-short : (ws : List ℕ) (r : Resume) (ls : List ℕ) → Short (startOn ws r ls .out)
+startOn-short ws Start ls = omega arith
+startOn-short ws (After k) ls = seekFrom-short ws k (headerAt ws .root) ls
+
+pub startOn-few : (ws : List ℕ) (r : Resume) (ls ms : List ℕ) (x : Seek) (l o n : ℕ) → startOn ws r ls ≡ record { links = ms; out = x }
+    → x ≡ seek.At l o n → n ≤ 129
+startOn-few ws r ls ms x l o n e q = subst Short (ap (λ (s : Seeking). s .out) e ∙ q) (startOn-short ws r ls)
+
+-- ---- visitOn
+
+module _ (ws : List ℕ) (l : ℕ) (x : Bool) (e : x ≡ roomOf (length ws) l) where
+  pub visitOn-outside : not x ≡ true → visit.Bad ≡ visitOn ws l
+  unfolding visitOn
+  visitOn-outside t = simp (← e, not-true x t)
+
+  pub visitOn-wide : (r : Record) → r ≡ recordAt ws l → not x ≡ false → 257 < r .tag → visit.Bad ≡ visitOn ws l
+  unfolding visitOn
+  visitOn-wide r q t h = simp (← e, not-false x t, ← q, lt-ltb _ _ h)
+
+  pub visitOn-node : (r : Record) → r ≡ recordAt ws l → not x ≡ false → r .tag ≤ 257 → visit.Node r ≡ visitOn ws l
+  unfolding visitOn
+  visitOn-node r q t h = simp (← e, not-false x t, ← q, le-ltb _ _ h)
+
+-- ---- entryPut
+
+module _ (us : List ℕ) (n : ℕ) (r : Record) where
+  pub entryPut-branch : r .tag % 2 ≡ 0 → entryPut us n r ≡ record { words = us; given = n }
+  unfolding entryPut
+  entryPut-branch h = let g : r .tag % 2 ≡ 1 → ⊥ = λ e. omega arith in simp (ne-eqb _ _ g)
+
+  pub entryPut-stored : (r .tag % 2 ≡ 0 → ⊥) → entryPut us n r ≡ record { words = entrySet us n r; given = n + 1 }
+  unfolding entryPut
+  entryPut-stored h = let g : r .tag % 2 ≡ 1 = omega arith in simp (eq-eqb _ _ g)
+
+  given-entryPut : entryPut us n r .given ≤ n + 1
+  unfolding entryPut
+  given-entryPut = at (odd (r .tag))
+    where
+      at : (x : Bool) → cond {A = Entries} x (record { words = entrySet us n r; given = n + 1 }) (record { words = us; given = n }) .given ≤ n + 1
+      at true = le-refl (n + 1)
+      at false = omega arith
+
+  pub entryPut-most : (ys : List ℕ) (m : ℕ) → entryPut us n r ≡ record { words = ys; given = m } → m ≤ n + 1
+  entryPut-most ys m e = subst (λ (x : Entries). x .given ≤ n + 1) e given-entryPut
+
+-- ---- tourOn, where a tour that has the value v goes on, and may still pass f nodes
+
+module _ (ws : List ℕ) (b at o : ℕ) (ls us : List ℕ) (n count : ℕ) (v : Touring) where
+  pub tourOn-deep : (f : ℕ) → tourOn f ws b at o ls us n count ≡ v → 129 < o → v ≡ ends ls us toured.Bad
+  unfolding tourOn
+  tourOn-deep zero i h = sym i ∙ simp (lt-ltb _ _ h)
+  tourOn-deep (suc f) i h = sym i ∙ simp (lt-ltb _ _ h)
+
+  -- and t is what it looks at
+  module _ (t : Tour) (e : t ≡ popOn ls at o) (h : o ≤ 129) where
+    pub tourOn-over : (f : ℕ) → tourOn f ws b at o ls us n count ≡ v → t .next ≡ 0 → v ≡ ends ls us (toured.Done n false count)
+    unfolding tourOn turnOn
+    tourOn-over zero i z = sym i ∙ simp (le-ltb _ _ h, ← e, eq-eqb _ _ z)
+    tourOn-over (suc f) i z = sym i ∙ simp (le-ltb _ _ h, ← e, eq-eqb _ _ z)
+
+    pub tourOn-more : (f : ℕ) → tourOn f ws b at o ls us n count ≡ v → (t .next ≡ 0 → ⊥) → n ≡ b → v ≡ ends ls us (toured.Done n true count)
+    unfolding tourOn turnOn
+    tourOn-more zero i z q = sym i ∙ simp (le-ltb _ _ h, ← e, ne-eqb _ _ z, eq-eqb _ _ q)
+    tourOn-more (suc f) i z q = sym i ∙ simp (le-ltb _ _ h, ← e, ne-eqb _ _ z, eq-eqb _ _ q)
+
+    pub tourOn-spent : (f : ℕ) → tourOn f ws b at o ls us n count ≡ v → (t .next ≡ 0 → ⊥) → (n ≡ b → ⊥) → f ≡ 0 → v ≡ ends ls us toured.Bad
+    unfolding tourOn turnOn
+    tourOn-spent f i z q s =
+        sym i ∙ ap (λ (g : ℕ). tourOn g ws b at o ls us n count) s ∙ simp (le-ltb _ _ h, ← e, ne-eqb _ _ z, ne-eqb _ _ q)
+
+    -- and may pass m nodes in all, and x is what it finds there
+    module _ (m : ℕ) (i : tourOn (m - count) ws b at o ls us n count ≡ v) (z : t .next ≡ 0 → ⊥) (q : n ≡ b → ⊥) (s : count < m)
+        (x : Visit) (p : x ≡ visitOn ws (t .next)) where
+      tourOn-turn : v
+          ≡ nodeOn x ls us n (t .depth) (λ l s e. tourOn (m - (count + 1)) ws b l (s .depth) (s .links) (e .words) (e .given) (count + 1))
+      unfolding tourOn turnOn
+      tourOn-turn =
+          let f : m - count ≡ suc (m - (count + 1)) = omega arith in
+          sym i
+          ∙ ap (λ (g : ℕ). tourOn g ws b at o ls us n count) f
+          ∙ simp (le-ltb _ _ h, ← e, ne-eqb _ _ z, ne-eqb _ _ q, ← p)
+
+      pub tourOn-bad : x ≡ visit.Bad → v ≡ ends ls us toured.Bad
+      unfolding nodeOn
+      tourOn-bad y = tourOn-turn ∙ rw y
+
+      pub tourOn-node : (r : Record) (ms : List ℕ) (d : ℕ) (ys : List ℕ) (j : ℕ) → x ≡ visit.Node r
+          → pushOn ls (t .depth) (r .right) ≡ record { links = ms; depth = d } → entryPut us n r ≡ record { words = ys; given = j }
+          → tourOn (m - (count + 1)) ws b (r .left) d ms ys j (count + 1) ≡ v
+      unfolding nodeOn
+      tourOn-node r ms d ys j y k w = sym (tourOn-turn ∙ rw (y, k, w))
+
+-- at most b entries are given, and at most so many nodes passed
+abbrev pub Within : ℕ → ℕ → Toured → Type 0
+Within b most (toured.Done n more count) = (n ≤ b) × (count ≤ most)
+Within b most toured.Bad = Unit {0}
+
+module _ (ws : List ℕ) (b most : ℕ) (ls us : List ℕ) (n count : ℕ) (h : n ≤ b) where
+  turnOn-within : (t : Tour) (onward : Touring) → count ≤ most → (n < b → Within b most (onward .out))
+      → Within b most (turnOn ws b t ls us n count onward .out)
+  unfolding turnOn
+  turnOn-within t onward g rec = at (eqb (t .next) 0) (eqb n b) refl
+    where
+      at : (x y : Bool) → eqb n b ≡ y
+          → Within b most (cond x (ends ls us (toured.Done n false count)) (cond y (ends ls us (toured.Done n true count)) onward) .out)
+      at true y p = (h, g)
+      at false true p = (h, g)
+      at false false p = rec (let q : n ≡ b → ⊥ = eqb-false _ _ p in omega arith)
+
+  nodeOn-within : (x : Visit) (o : ℕ) (go : ℕ → Stack → Entries → Touring) → n < b
+      → ((l : ℕ) (s : Stack) (e : Entries) → e .given ≤ b → Within b most (go l s e .out)) → Within b most (nodeOn x ls us n o go .out)
+  unfolding nodeOn
+  nodeOn-within (visit.Node r) o go g rec = rec (r .left) (pushOn ls o (r .right)) (entryPut us n r) (le-trans (given-entryPut us n r) (omega arith))
+  nodeOn-within visit.Bad o go g rec = tt
+
+deep-within : (b most : ℕ) (ls us : List ℕ) (v : Touring) (x : Bool) → Within b most (v .out)
+    → Within b most (cond x (ends ls us toured.Bad) v .out)
+deep-within b most ls us v true h = tt
+deep-within b most ls us v false h = h
+
+pub tourOn-within : (f : ℕ) (ws : List ℕ) (b at o : ℕ) (ls us : List ℕ) (n count most : ℕ) → n ≤ b → count + f ≤ most
+    → Within b most (tourOn f ws b at o ls us n count .out)
+unfolding tourOn
+tourOn-within zero ws b at o ls us n count most h g =
+    deep-within b most ls us (turnOn ws b (popOn ls at o) ls us n count (ends ls us toured.Bad)) (ltb 129 o)
+    (turnOn-within ws b most ls us n count h (popOn ls at o) (ends ls us toured.Bad) (omega arith) (λ l. tt))
+tourOn-within (suc f) ws b at o ls us n count most h g =
+    let go : ℕ → Stack → Entries → Touring = λ l s e. tourOn f ws b l (s .depth) (s .links) (e .words) (e .given) (count + 1) in
+    let on : Touring = nodeOn (visitOn ws (popOn ls at o .next)) ls us n (popOn ls at o .depth) go in
+    deep-within b most ls us (turnOn ws b (popOn ls at o) ls us n count on) (ltb 129 o)
+    (turnOn-within ws b most ls us n count h (popOn ls at o) on (omega arith)
+    (λ l. nodeOn-within ws b most ls us n count h (visitOn ws (popOn ls at o .next)) (popOn ls at o .depth) go l
+    (λ l s e y. tourOn-within f ws b l (s .depth) (s .links) (e .words) (e .given) (count + 1) most y (omega arith))))
+
+-- ---- tourFrom
+
+pub tourOn-start : (ws : List ℕ) (b next o : ℕ) (ls us : List ℕ) → tourOn (length ws / 8 - 0) ws b next o ls us 0 0 ≡ tourFrom ws b next o ls us
+unfolding tourFrom
+tourOn-start ws b next o ls us = ap (λ (f : ℕ). tourOn f ws b next o ls us 0 0) (omega arith)
+
+pub tourFrom-within : (ws : List ℕ) (b next o : ℕ) (ls us : List ℕ) → Within b (length ws / 8) (tourFrom ws b next o ls us .out)
+unfolding tourFrom
+tourFrom-within ws b next o ls us = tourOn-within (length ws / 8) ws b next o ls us 0 0 (length ws / 8) (omega arith) (omega arith)

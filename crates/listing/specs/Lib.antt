@@ -1,0 +1,2 @@
+pub mod Touring
+pub mod Slicing
