@@ -35,9 +35,9 @@ use Rattle.listing.proofs.SeekLaws.{Resumes, Sought, startOn-holds}
 -- ---- refusedOf
 
 -- what is known where no refusal applies
-record Accepted (r : Resume) (b room : ℕ) : Type 0 where
-  resumes : Resumes r
-  fits : 6 * b ≤ room
+pub record Accepted (r : Resume) (b room : ℕ) : Type 0 where
+  pub resumes : Resumes r
+  pub fits : 6 * b ≤ room
 
 resumes-sound : (r : Resume) → soundOf r ≡ true → Resumes r
 resumes-sound Start e = tt
@@ -54,7 +54,7 @@ refusedOf-no-at true true true f short e = (refl, cc)
 refusedOf-no-at true false z f short e = (cc, cc)
 refusedOf-no-at false s z f short e = (cc, cc)
 
-refusedOf-no : (n : ℕ) (r : Resume) (b room : ℕ) → refusedOf n r b room ≡ refused.No → Accepted r b room
+pub refusedOf-no : (n : ℕ) (r : Resume) (b room : ℕ) → refusedOf n r b room ≡ refused.No → Accepted r b room
 unfolding refusedOf
 refusedOf-no n r b room e =
     let q = refusedOf-no-at (isTable n) (soundOf r) (eqb b 0) (ltb 4096 b) (ltb room (6 * b)) e in

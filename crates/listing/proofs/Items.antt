@@ -1,6 +1,6 @@
 -- The nodes of a tree in their order, as a listing passes them, and the trees that a tour still has before it. Definitions that the laws of
 -- listing share. No contract cites this file.
---   Item, items t       a node's string and number; the nodes of a tree, from the top, the side of 0 first
+--   Item, items t       a node's link, string and number; the nodes of a tree, from the top, the side of 0 first
 --   allItems ts         those of several trees, one after the other
 --   storedIn is         what they store
 --   upTo b is, past b is   the items up to the b-th stored one, and those after it
@@ -22,12 +22,13 @@ use Rattle.records.specs.Layout.{roomOf, recordAt}
 use Rattle.records.specs.Holds.{labels, Linked}
 
 pub record Item : Type 0 where
+  pub link : ℕ
   pub key : Bits
   pub zone : Option ℕ
 
 abbrev pub items : Tree ℕ → List Item
 items tip = []
-items (node a s v l r) = record { key = s; zone = v } ∷ (items l ++ items r)
+items (node a s v l r) = record { link = a; key = s; zone = v } ∷ (items l ++ items r)
 
 abbrev pub allItems : List (Tree ℕ) → List Item
 allItems [] = []

@@ -8,4 +8,5 @@ pub mod PushLaws
 pub mod SoughtLaws
 pub mod SeekLaws
 pub mod HoldsLaws
+pub mod SliceRestsLaws
 pub mod SlicingLaws

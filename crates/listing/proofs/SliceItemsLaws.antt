@@ -164,20 +164,20 @@ last-cons x [] (q ∷ qs) e = cc
 last-cons x (p ∷ ps) [] e = cc
 last-cons x (p ∷ ps) (q ∷ qs) e = e
 
-last-own : (b : ℕ) (s : Bits) (v : Option ℕ) (is : List Item) → Closed (record { key = s; zone = v } ∷ is)
+last-own : (b a : ℕ) (s : Bits) (v : Option ℕ) (is : List Item) → Closed (record { link = a; key = s; zone = v } ∷ is)
     → last (keys (storedIn (upTo (suc b - counts v) is))) ≡ last (keysOf (upTo (suc b - counts v) is))
     → last (keys (own s v ++ storedIn (upTo (suc b - counts v) is))) ≡ last (s ∷ keysOf (upTo (suc b - counts v) is))
 unfolding keys
-last-own b s (some z) is h e = last-cons s (keys (storedIn (upTo (suc b - 1) is))) (keysOf (upTo (suc b - 1) is)) e
-last-own b s none [] h e = absurd (h .0)
-last-own b s none (j ∷ is) h e = e ∙ rw (sub-zero, eqb·suc-zero b)
+last-own b a s (some z) is h e = last-cons s (keys (storedIn (upTo (suc b - 1) is))) (keysOf (upTo (suc b - 1) is)) e
+last-own b a s none [] h e = absurd (h .0)
+last-own b a s none (j ∷ is) h e = e ∙ rw (sub-zero, eqb·suc-zero b)
 
 last-upTo : (b : ℕ) (is : List Item) → Closed is → last (keys (storedIn (upTo b is))) ≡ last (keysOf (upTo b is))
 unfolding keys
 last-upTo b [] h = refl
 last-upTo zero (i ∷ is) h = refl
 last-upTo (suc b) (i ∷ is) h =
-    rw (eqb·suc-zero b) (last-own b (i .key) (i .zone) is h (last-upTo (suc b - counts (i .zone)) is (h .1)))
+    rw (eqb·suc-zero b) (last-own b (i .link) (i .key) (i .zone) is h (last-upTo (suc b - counts (i .zone)) is (h .1)))
 
 -- ---- given, remains and passed, of a good tree's items after a resume
 

@@ -38,7 +38,7 @@ small-recordAt : (ws : List ℕ) (l : ℕ) → Machine ws → Small (keyOf (reco
 unfolding recordAt keyOf
 small-recordAt ws l h = (h _, h _, h _, h _)
 
-visitOn-bears : (ws : List ℕ) (l : ℕ) (s : Bits) (v : Option ℕ) → roomOf (length ws) l ≡ true → Bears (recordAt ws l) s v
+pub visitOn-bears : (ws : List ℕ) (l : ℕ) (s : Bits) (v : Option ℕ) → roomOf (length ws) l ≡ true → Bears (recordAt ws l) s v
     → visitOn ws l ≡ visit.Node (recordAt ws l)
 unfolding visitOn keyOf
 visitOn-bears ws l s v e h =
@@ -48,29 +48,29 @@ visitOn-bears ws l s v e h =
 -- ---- tourOn, one law for each way on
 
 -- on from a node, with its side of 1 put off
-abbrev onwardOn : ℕ → List ℕ → ℕ → ℕ → List ℕ → List ℕ → ℕ → ℕ → Record → Touring
+abbrev pub onwardOn : ℕ → List ℕ → ℕ → ℕ → List ℕ → List ℕ → ℕ → ℕ → Record → Touring
 onwardOn f ws b o ls us n count r =
     tourOn f ws b (r .left) (pushOn ls o (r .right) .depth) (pushOn ls o (r .right) .links) (entryPut us n r .words)
     (entryPut us n r .given) (count + 1)
 
 module _ (f : ℕ) (ws : List ℕ) (b : ℕ) (ls us : List ℕ) (n count : ℕ) where
-  tourOn-full : (l o : ℕ) → 0 < l → o ≤ 129 → n ≡ b → tourOn (suc f) ws b l o ls us n count ≡ ends ls us (toured.Done n true count)
+  pub tourOn-full : (l o : ℕ) → 0 < l → o ≤ 129 → n ≡ b → tourOn (suc f) ws b l o ls us n count ≡ ends ls us (toured.Done n true count)
   unfolding tourOn turnOn popOn
   tourOn-full l o h g e = simp (le-ltb 129 o g, ne-eqb l 0 (omega arith), eq-eqb n b e)
 
   -- the top of the stack is as good as the next link
-  tourOn-pop : (o : ℕ) → 0 < o → o ≤ 129 → 0 < getD ls (o - 1) 0
+  pub tourOn-pop : (o : ℕ) → 0 < o → o ≤ 129 → 0 < getD ls (o - 1) 0
       → tourOn (suc f) ws b 0 o ls us n count ≡ tourOn (suc f) ws b (getD ls (o - 1) 0) (o - 1) ls us n count
   unfolding tourOn popOn
   tourOn-pop o h g e =
       simp (le-ltb 129 o g, le-ltb 129 (o - 1) (omega arith), ne-eqb o 0 (omega arith), ne-eqb (getD ls (o - 1) 0) 0 (omega arith))
 
-  tourOn-node : (l o : ℕ) (r : Record) → 0 < l → o ≤ 129 → n < b → visitOn ws l ≡ visit.Node r
+  pub tourOn-node : (l o : ℕ) (r : Record) → 0 < l → o ≤ 129 → n < b → visitOn ws l ≡ visit.Node r
       → tourOn (suc f) ws b l o ls us n count ≡ onwardOn f ws b o ls us n count r
   unfolding tourOn turnOn popOn nodeOn
   tourOn-node l o r h g m e = simp (le-ltb 129 o g, ne-eqb l 0 (omega arith), ne-eqb n b (omega arith), e)
 
-tourOn-empty : (f : ℕ) (ws : List ℕ) (b l o : ℕ) (ls us : List ℕ) (n count : ℕ) → l ≡ 0 → o ≡ 0
+pub tourOn-empty : (f : ℕ) (ws : List ℕ) (b l o : ℕ) (ls us : List ℕ) (n count : ℕ) → l ≡ 0 → o ≡ 0
     → tourOn f ws b l o ls us n count ≡ ends ls us (toured.Done n false count)
 unfolding tourOn turnOn popOn
 tourOn-empty zero ws b l o ls us n count h g = simp (h, g)
@@ -105,13 +105,13 @@ length-own : (s : Bits) (v : Option ℕ) → length (own s v) ≡ counts v
 length-own s none = refl
 length-own s (some z) = refl
 
-counts-most : (v : Option ℕ) → counts v ≤ 1
+pub counts-most : (v : Option ℕ) → counts v ≤ 1
 counts-most none = omega arith
 counts-most (some z) = omega arith
 
-module _ (ws : List ℕ) (c : ℕ) (us vs : List ℕ) (n k count : ℕ) (s : Bits) (v : Option ℕ) (is : List Item) (x : Touring) where
+module _ (ws : List ℕ) (c : ℕ) (us vs : List ℕ) (n k count a : ℕ) (s : Bits) (v : Option ℕ) (is : List Item) (x : Touring) where
   turns-step : k ≡ n + counts v → (Machine ws → vs ≡ sets us (6 * n) (wordsOf (own s v)))
-      → Turns ws (suc c - counts v) vs k (count + 1) is x → Turns ws (suc c) us n count (record { key = s; zone = v } ∷ is) x
+      → Turns ws (suc c - counts v) vs k (count + 1) is x → Turns ws (suc c) us n count (record { link = a; key = s; zone = v } ∷ is) x
   turns-step e w t =
       let rest = take (suc c - counts v) (storedIn is) in
       let given : n + length (take (suc c) (own s v ++ storedIn is)) ≡ k + length rest =
@@ -157,7 +157,7 @@ module _ (ws : List ℕ) (b : ℕ) where
         let seen : visitOn ws l ≡ visit.Node (recordAt ws a) =
         rw (p .linked .0) (visitOn-bears ws a s v (p .sound a (List·Memᴰ·head refl)) bears) in
         rw (tourOn-node f ws b ls us n count l o (recordAt ws a) above (omega (arith, p .room)) (omega arith) seen)
-        (turns-step ws c us _ n _ count s v (items x ++ items y ++ allItems ts) _ (given-entryPut us n (recordAt ws a) s v bears)
+        (turns-step ws c us _ n _ count a s v (items x ++ items y ++ allItems ts) _ (given-entryPut us n (recordAt ws a) s v bears)
         (λ w. words-entryPut us n (recordAt ws a) s v (small-recordAt ws a w) bears)
         (turns-onward f go l o ls us n c count a s v x y ts p e h))
 
