@@ -1,2 +1,3 @@
 pub mod ReachedLaws
 pub mod SequencesLaws
+pub mod AcceptedLaws
