@@ -1,5 +1,6 @@
 pub mod ListsLaws
 pub mod BitsLaws
+pub mod MeetLaws
 pub mod RisingLaws
 pub mod BlankLaws
 pub mod NumbersLaws

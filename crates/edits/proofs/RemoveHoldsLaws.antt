@@ -14,7 +14,7 @@ use lib.Seq.{paste}
 use Rattle.bits.specs.Bits.{Bits, meet}
 use Rattle.bits.specs.declared.Meeting.{Meeting}
 use Rattle.bits.specs.declared.Meeting.the-variants.{Equal, Above, Apart}
-use Rattle.bits.proofs.BitsLaws.{Says, meet-says}
+use Rattle.bits.proofs.MeetLaws.{Says, meet-says}
 use Rattle.prefix.specs.Keys.{stringOf, Valid}
 use Rattle.prefix.specs.declared.Prefix.{Prefix}
 use Rattle.zones.specs.Maps.{Map, keys, get, without}

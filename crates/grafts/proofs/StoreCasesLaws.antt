@@ -13,7 +13,8 @@ use lib.ListN.{length, length-append}
 use borrow.Author.Tests.{eq-eqb}
 use Rattle.bits.specs.Bits.{Bits, lcp, meet}
 use Rattle.bits.specs.declared.Meeting.the-variants.{Equal, Above, Apart}
-use Rattle.bits.proofs.BitsLaws.{isPrefix-length, isPrefix-trans, isPrefix-append, lcp-comm, lcp-prefix, Says, meet-says}
+use Rattle.bits.proofs.BitsLaws.{isPrefix-length, isPrefix-trans, isPrefix-append, lcp-comm, lcp-prefix}
+use Rattle.bits.proofs.MeetLaws.{Says, meet-says}
 use Rattle.prefix.specs.Keys.{stringOf}
 use Rattle.prefix.specs.declared.Prefix.{Prefix}
 use Rattle.prefix.proofs.KeysLaws.{length-stringOf}

@@ -1,4 +1,5 @@
 pub mod TouringLaws
+pub mod TourOnLaws
 pub mod Items
 pub mod EntriesLaws
 pub mod PendingLaws

@@ -16,7 +16,8 @@ use Rattle.bits.specs.Bits.{Bits, isPrefix, lcp, meet}
 use Rattle.bits.specs.declared.Meeting.{Meeting}
 use Rattle.bits.specs.declared.Meeting.the-variants.{Equal, Below, Above, Apart}
 use Rattle.bits.proofs.ListsLaws.{keep-every}
-use Rattle.bits.proofs.BitsLaws.{isPrefix-length, lcp-greatest, Says, meet-says}
+use Rattle.bits.proofs.BitsLaws.{isPrefix-length, lcp-greatest}
+use Rattle.bits.proofs.MeetLaws.{Says, meet-says}
 use Rattle.prefix.specs.Keys.{stringOf, Valid}
 use Rattle.prefix.specs.declared.Prefix.{Prefix}
 use Rattle.prefix.proofs.KeysLaws.{length-stringOf}

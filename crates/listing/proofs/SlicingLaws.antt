@@ -28,7 +28,8 @@ use Rattle.listing.specs.declared.Toured.{Toured}
 use Rattle.listing.specs.declared.Toured.the-variants as toured
 use Rattle.listing.specs.declared.Sliced.{Sliced}
 use Rattle.listing.specs.declared.Sliced.the-variants.{Given, Damaged}
-use Rattle.listing.proofs.TouringLaws.{startOn-few, Within, tourFrom-within}
+use Rattle.listing.proofs.TouringLaws.{startOn-few}
+use Rattle.listing.proofs.TourOnLaws.{Within, tourFrom-within}
 use Rattle.listing.proofs.HoldsLaws.{sliceOn-holds, sliceOn-written}
 
 -- ---- soundOf

@@ -15,7 +15,8 @@ use Rattle.bits.specs.Bits.{Bits, isPrefix, lcp, before}
 use Rattle.bits.specs.declared.Meeting.the-variants.{Equal, Below, Above, Apart}
 use Rattle.bits.proofs.ListsLaws.{test-ext, keep-append, keep-every, keep-none}
 use Rattle.bits.proofs.BitsLaws.{isPrefix-refl, isPrefix-trans, isPrefix-length, isPrefix-append, lcp-comm, lcp-prefix}
-use Rattle.bits.proofs.BitsLaws.{before-irrefl, before-trans, before-longer, before-split, Says}
+use Rattle.bits.proofs.BitsLaws.{before-irrefl, before-trans, before-longer, before-split}
+use Rattle.bits.proofs.MeetLaws.{Says}
 use Rattle.prefix.specs.Keys.{stringOf, Valid}
 use Rattle.prefix.specs.declared.Prefix.{Prefix}
 use Rattle.prefix.proofs.KeysLaws.{length-stringOf}

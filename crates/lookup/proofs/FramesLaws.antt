@@ -19,7 +19,8 @@ use lib.ListN.{length, getD, length-append}
 use Rattle.bits.specs.Bits.{Bits, isPrefix, meet}
 use Rattle.bits.specs.declared.Meeting.{Meeting}
 use Rattle.bits.specs.declared.Meeting.the-variants.{Equal, Below, Above, Apart}
-use Rattle.bits.proofs.BitsLaws.{isPrefix-length, Says, meet-says}
+use Rattle.bits.proofs.BitsLaws.{isPrefix-length}
+use Rattle.bits.proofs.MeetLaws.{Says, meet-says}
 use Rattle.prefix.specs.Keys.{stringOf, Valid}
 use Rattle.prefix.specs.declared.Prefix.{Prefix}
 use Rattle.prefix.proofs.KeysLaws.{length-stringOf}

@@ -15,7 +15,8 @@ use borrow.Author.Tests.{le-ltb, eqb-true, eqb-false, eq-eqb, ne-eqb}
 use Rattle.bits.specs.Bits.{Bits, meet}
 use Rattle.bits.specs.declared.Meeting.{Meeting}
 use Rattle.bits.specs.declared.Meeting.the-variants.{Equal, Below, Above, Apart}
-use Rattle.bits.proofs.BitsLaws.{isPrefix-length, Says, meet-says}
+use Rattle.bits.proofs.BitsLaws.{isPrefix-length}
+use Rattle.bits.proofs.MeetLaws.{Says, meet-says}
 use Rattle.prefix.specs.Keys.{stringOf, Valid}
 use Rattle.prefix.specs.declared.Prefix.{Prefix}
 use Rattle.prefix.proofs.KeysLaws.{length-stringOf, valid-isValid}

@@ -13,7 +13,8 @@ use lib.Seq.{getD-take, getD-append-seam}
 use borrow.Author.Tests.{lt-ltb, le-ltb, eq-eqb, ne-eqb}
 use Rattle.bits.specs.Bits.{Bits, isPrefix, lcp}
 use Rattle.bits.specs.declared.Meeting.the-variants.{Equal, Below, Above, Apart}
-use Rattle.bits.proofs.BitsLaws.{isPrefix-length, take-next, lcp-right, lcp-prefix, Says}
+use Rattle.bits.proofs.BitsLaws.{isPrefix-length, take-next, lcp-right, lcp-prefix}
+use Rattle.bits.proofs.MeetLaws.{Says}
 use Rattle.prefix.specs.Keys.{stringOf, Valid}
 use Rattle.prefix.specs.declared.Prefix.{Prefix}
 use Rattle.prefix.proofs.KeysLaws.{length-stringOf}

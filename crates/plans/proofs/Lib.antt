@@ -1,3 +1,4 @@
 pub mod PlanningLaws
+pub mod RemovalLaws
 pub mod FittingLaws
 pub mod AppliedLaws

@@ -12,7 +12,8 @@ use borrow.Author.Tests.{le-leb, leb-true}
 use Rattle.bits.specs.Bits.{lcp, order, isPrefix, meet}
 use Rattle.bits.specs.Numbers.{bitsOf, value, clear, blank, numberOrder, orElse}
 use Rattle.bits.specs.declared.Meeting.the-variants.{Equal, Below, Above, Apart}
-use Rattle.bits.proofs.BitsLaws.{length-lcp-take, isPrefix-lcp, meet-apart, meet-above, meet-below, meet-equal}
+use Rattle.bits.proofs.BitsLaws.{length-lcp-take, isPrefix-lcp}
+use Rattle.bits.proofs.MeetLaws.{meet-apart, meet-above, meet-below, meet-equal}
 use Rattle.bits.proofs.BlankLaws.{length-blank, take-blank, clear-drop-blank, blank-clear, blank-ext, orElse-assoc, order-take}
 use Rattle.bits.proofs.NumbersLaws.{length-bitsOf}
 use Rattle.bits.proofs.ValueLaws.{value-bitsOf, bitsOf-value}

@@ -12,7 +12,8 @@ use Rattle.bits.specs.Bits.{Bits, isPrefix, equal, meet}
 use Rattle.bits.specs.declared.Meeting.{Meeting}
 use Rattle.bits.specs.declared.Meeting.the-variants.{Equal, Below, Above, Apart}
 use Rattle.bits.proofs.ListsLaws.{keep-none, keep-every}
-use Rattle.bits.proofs.BitsLaws.{isPrefix-refl, isPrefix-trans, isPrefix-append, equal-true, order-refl, longer-irrefl, one-side, Says, meet-says}
+use Rattle.bits.proofs.BitsLaws.{isPrefix-refl, isPrefix-trans, isPrefix-append, equal-true, order-refl, longer-irrefl, one-side}
+use Rattle.bits.proofs.MeetLaws.{Says, meet-says}
 use Rattle.zones.specs.Maps.{Entry, Map, get, longestMatch}
 use Rattle.zones.specs.Tree.{Tree, tip, node, Good, own, entries, onward, find, better, best}
 use Rattle.zones.proofs.MatchLaws.{longestMatch-last}

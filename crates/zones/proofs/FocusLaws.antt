@@ -10,7 +10,7 @@ use lib.Dec.{T}
 use Rattle.bits.specs.Bits.{Bits, isPrefix, meet}
 use Rattle.bits.specs.declared.Meeting.{Meeting}
 use Rattle.bits.specs.declared.Meeting.the-variants.{Equal, Below, Above, Apart}
-use Rattle.bits.proofs.BitsLaws.{meet-says}
+use Rattle.bits.proofs.MeetLaws.{meet-says}
 use Rattle.zones.specs.Maps.{Entry}
 use Rattle.zones.specs.Tree.{Tree, tip, node, onward, find, full, Branch, Good, putTree, removeTree}
 use Rattle.zones.specs.Focus.{Context, top, into, Focus, joined, plug, collapsed, pull, focus}

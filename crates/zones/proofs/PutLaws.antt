@@ -13,7 +13,8 @@ use Rattle.bits.specs.declared.Order.{Order}
 use Rattle.bits.specs.declared.Order.the-variants.{Before, Same, After}
 use Rattle.bits.specs.declared.Meeting.{Meeting}
 use Rattle.bits.specs.declared.Meeting.the-variants.{Equal, Below, Above, Apart}
-use Rattle.bits.proofs.BitsLaws.{isPrefix-trans, lcp-greatest, order-refl, order-flip, before-longer, before-split, Says, meet-says}
+use Rattle.bits.proofs.BitsLaws.{isPrefix-trans, lcp-greatest, order-refl, order-flip, before-longer, before-split}
+use Rattle.bits.proofs.MeetLaws.{Says, meet-says}
 use Rattle.zones.specs.Maps.{Entry, Map, keys, put, putAt}
 use Rattle.zones.specs.Nodes.{nodes}
 use Rattle.zones.specs.Tree.{Tree, tip, node, full, Branch, Good, own, entries, strings, putHere, putTree}

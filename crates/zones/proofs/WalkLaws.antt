@@ -16,7 +16,8 @@ use Rattle.bits.specs.Bits.{Bits, isPrefix, lcp, meet}
 use Rattle.bits.specs.declared.Meeting.{Meeting}
 use Rattle.bits.specs.declared.Meeting.the-variants.{Equal, Below, Above, Apart}
 use Rattle.bits.proofs.ListsLaws.{T-true, and-left, and-right, and-both, test-ext, mem-any, mem-all, all-keep, all-lastOr, keep-none, keep-every, keep-append}
-use Rattle.bits.proofs.BitsLaws.{isPrefix-refl, isPrefix-trans, isPrefix-length, isPrefix-append, isPrefix-take, take-next, lcp-left, longer-irrefl, one-side, Says, meet-says}
+use Rattle.bits.proofs.BitsLaws.{isPrefix-refl, isPrefix-trans, isPrefix-length, isPrefix-append, isPrefix-take, take-next, lcp-left, longer-irrefl, one-side}
+use Rattle.bits.proofs.MeetLaws.{Says, meet-says}
 use Rattle.zones.specs.Maps.{keys}
 use Rattle.zones.specs.Nodes.{shorter, shortest, prefixNodes, beyond, lastNode, path}
 use Rattle.zones.specs.Tree.{Tree, tip, node, Good, entries, strings, onward, walk}

@@ -5,7 +5,7 @@ use native.Mathlib.Omega.{arith}
 use lib.ListN.{length-set}
 use borrow.Author.Needs.{needs}
 use Rattle.listing.specs.Touring.{entrySet}
-use Rattle.listing.proofs.TouringLaws.{entryPut-branch, entryPut-stored}
+use Rattle.listing.proofs.TourOnLaws.{entryPut-branch, entryPut-stored}
 use Rattle.listing.proofs.put_entry.Statement.{statement}
 use Rattle.listing.proofs.put_entry.Tie as tie
 

@@ -8,7 +8,7 @@ use mathlib.Core.Path.{_≡_, refl, _∙_}
 use lib.ListN.{length}
 use borrow.Author.Needs.{needs}
 use Rattle.listing.specs.Touring.{tourOn, tourFrom}
-use Rattle.listing.proofs.TouringLaws.{entryPut-most, tourOn-deep, tourOn-over, tourOn-more, tourOn-spent, tourOn-bad, tourOn-node, tourOn-start}
+use Rattle.listing.proofs.TourOnLaws.{entryPut-most, tourOn-deep, tourOn-over, tourOn-more, tourOn-spent, tourOn-bad, tourOn-node, tourOn-start}
 use Rattle.listing.proofs.tour_on.Statement.{statement}
 use Rattle.listing.proofs.tour_on.Tie as tie
 

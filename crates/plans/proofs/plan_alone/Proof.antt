@@ -1,7 +1,7 @@
 -- `plans::plan_alone` meets its contract: what the link above leads to, and whether that is a branch node.
 -- Assumes nothing.
 use borrow.Author.Needs.{needs}
-use Rattle.plans.proofs.PlanningLaws.{aloneOn-top, aloneOn-outside, aloneOn-stored, aloneOn-branch}
+use Rattle.plans.proofs.RemovalLaws.{aloneOn-top, aloneOn-outside, aloneOn-stored, aloneOn-branch}
 use Rattle.plans.proofs.plan_alone.Statement.{statement}
 use Rattle.plans.proofs.plan_alone.Tie as tie
 

@@ -1,7 +1,7 @@
 -- `plans::plan_out` meets its contract: the tests are those of the definition.
 -- Assumes nothing.
 use borrow.Author.Needs.{needs}
-use Rattle.plans.proofs.PlanningLaws.{outOn-alone, outOn-right, outOn-left, outOn-both}
+use Rattle.plans.proofs.RemovalLaws.{outOn-alone, outOn-right, outOn-left, outOn-both}
 use Rattle.plans.proofs.plan_out.Statement.{statement}
 use Rattle.plans.proofs.plan_out.Tie as tie
 

@@ -1,7 +1,7 @@
 -- `plans::plan_pass` meets its contract: the parts of the plan are those of the definition.
 -- Assumes nothing.
 use borrow.Author.Needs.{needs}
-use Rattle.plans.proofs.PlanningLaws.{passOn-plan}
+use Rattle.plans.proofs.RemovalLaws.{passOn-plan}
 use Rattle.plans.proofs.plan_pass.Statement.{statement}
 use Rattle.plans.proofs.plan_pass.Tie as tie
 

@@ -1,7 +1,7 @@
 -- `plans::plan_remove` meets its contract: what the link of the key's node leads to.
 -- Assumes nothing.
 use borrow.Author.Needs.{needs}
-use Rattle.plans.proofs.PlanningLaws.{planRemoveOn-nothing, planRemoveOn-outside, planRemoveOn-node}
+use Rattle.plans.proofs.RemovalLaws.{planRemoveOn-nothing, planRemoveOn-outside, planRemoveOn-node}
 use Rattle.plans.proofs.plan_remove.Statement.{statement}
 use Rattle.plans.proofs.plan_remove.Tie as tie
 

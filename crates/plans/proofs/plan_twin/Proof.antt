@@ -2,7 +2,7 @@
 -- plan are those of the definition.
 -- Assumes nothing.
 use borrow.Author.Needs.{needs}
-use Rattle.plans.proofs.PlanningLaws.{twinOn-wide, twinOn-plan}
+use Rattle.plans.proofs.RemovalLaws.{twinOn-wide, twinOn-plan}
 use Rattle.plans.proofs.plan_twin.Statement.{statement}
 use Rattle.plans.proofs.plan_twin.Tie as tie
 
