@@ -1,0 +1,3 @@
+pub mod LengthLaws
+pub mod ZonesLaws
+pub mod FitsLaws
