@@ -147,3 +147,10 @@ remove-promise ws k bs r us after e =
       written = λ m h v g. ap (λ (o : Edit Removal). o .bytes) (sym e) ∙ removeOn-holds ws k bs m h v g .bytes;
       holds = λ m h v g. holds-words (ap (λ (o : Edit Removal). o .words) e) (removeOn-holds ws k bs m h v g .holds);
     }
+
+-- the promise admits one answer, one table and one trail, on any words
+pub remove-single : (ws : List ℕ) (k : Prefix) (bs : List ℕ) (r q : Removal) (us vs as′ bs′ : List ℕ) → Remove ws k bs r us as′ → Remove ws k bs q vs bs′
+    → (r ≡ q) × (us ≡ vs) × (as′ ≡ bs′)
+remove-single ws k bs r q us vs as′ bs′ x y =
+    let e = sym (x .answer) ∙ y .answer in
+    (ap (λ (o : Edit Removal). o .answer) e, ap (λ (o : Edit Removal). o .words) e, ap (λ (o : Edit Removal). o .bytes) e)

@@ -178,3 +178,10 @@ store-promise ws k z bs r us after e =
       written = λ m h v g. ap (λ (o : Edit Stored). o .bytes) (sym e) ∙ storeOn-holds ws k z bs m h v g .bytes;
       holds = λ m h v g. holds-words (ap (λ (o : Edit Stored). o .words) e) (storeOn-holds ws k z bs m h v g .holds);
     }
+
+-- the promise admits one answer, one table and one trail, on any words
+pub store-single : (ws : List ℕ) (k : Prefix) (z : ℕ) (bs : List ℕ) (r q : Stored) (us vs as′ bs′ : List ℕ) → Store ws k z bs r us as′ → Store ws k z bs q vs bs′
+    → (r ≡ q) × (us ≡ vs) × (as′ ≡ bs′)
+store-single ws k z bs r q us vs as′ bs′ x y =
+    let e = sym (x .answer) ∙ y .answer in
+    (ap (λ (o : Edit Stored). o .answer) e, ap (λ (o : Edit Stored). o .words) e, ap (λ (o : Edit Stored). o .bytes) e)
