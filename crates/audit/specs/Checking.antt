@@ -1,6 +1,7 @@
 -- The whole-table check over any words, and its promise.
--- Paper 01, "Numbered refusals": "The whole-table check gives BadLength, yes or no. It says yes exactly if, for some set, the records in use
--- are that set's tree, each node once and linked as the tree is, and every other record is spare and open to later stores."
+-- Paper 01, "Numbered refusals": "The whole-table check gives BadLength, yes or no. It says yes exactly if,
+-- for some set, the records in use are that set's tree, each node once and linked as the tree is, and every
+-- other record is spare and open to later stores."
 --   stem at, lowOf at   the string that a node at a place begins with, and its length
 --   stands k at         the key begins so
 --   isNode r at         a record may be a node at that place

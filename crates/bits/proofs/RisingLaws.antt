@@ -1,4 +1,5 @@
--- The laws of strictly ascending lists of strings: such a list is the set of its members. No contract cites this file.
+-- The laws of strictly ascending lists of strings: such a list is the set of its members. No contract cites
+-- this file.
 -- Assumes nothing.
 use Prim.Native.Nat.{_+_, _≤_, zero-le}
 use native.Mathlib.Omega.{arith}

@@ -1,4 +1,5 @@
--- Lists with tests that compute. No paper speaks of them: they are what the other definitions are written with.
+-- Lists with tests that compute. No paper speaks of them: they are what the other definitions are written
+-- with.
 --   keep f xs     the elements that pass the test f, in their order
 --   any f xs      some element passes
 --   all f xs      every element passes

@@ -1,5 +1,6 @@
 -- Numbers as bit strings, highest bit first, and what stands after the first bits of a string.
--- Paper 01, "Keys and their order": "Bit 1 is the highest bit of word 0; bit 128 is the lowest bit of word 3."
+-- Paper 01, "Keys and their order": "Bit 1 is the highest bit of word 0; bit 128 is the lowest bit of word
+-- 3."
 --   bitsOf n x     the n lowest bits of x, the highest of them first
 --   value k        the number that the string k is
 --   clear k        no bit of k is set

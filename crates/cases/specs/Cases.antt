@@ -1,5 +1,5 @@
--- The small cases M1 to M12: one table under one statement, closed by computation. It is also the shortest way into the definitions:
--- each row is a question, and what they answer.
+-- The small cases M1 to M12: one table under one statement, closed by computation. It is also the shortest
+-- way into the definitions: each row is a question, and what they answer.
 -- Paper 01, "Small cases": "Marked M: proved." and "M1 to M12 form one table under one proved statement."
 --   Question, Answer    what a case asks, and what it is told
 --   answer q            what the definitions say to q

@@ -84,7 +84,8 @@ pub record Remove (ws : List ℕ) (k : Prefix) (bs : List ℕ) (r : Removal) (us
   pub left : (n : ℕ) → numberOf r ≡ suc n → us ≡ ws
   -- "all others return zero counts and leave every lent byte"
   pub kept : leavesAll (numberOf r) ≡ true → (valuesOf r ≡ 0 ∷ 0 ∷ []) × (after ≡ bs)
-  -- on words that hold a map, with a valid key and room for its trail: what it says, the path's widths and length, and the new map
+  -- on words that hold a map, with a valid key and room for its trail: what it says, the path's widths and
+  -- length, and the new map
   pub meaning : (m : Map) → Holds ws m → Valid k → 129 ≤ length bs
       → r ≡ gives (length (path (keys m) (stringOf k))) (get (stringOf k) m)
   pub written : (m : Map) → Holds ws m → Valid k → 129 ≤ length bs

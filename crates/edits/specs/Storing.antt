@@ -1,5 +1,6 @@
 -- Store: what it answers and writes on any words, and its promise.
--- Paper 01, "The lent table": "Store adds a prefix or replaces its zone number; it says which, and gives the old number if there was one."
+-- Paper 01, "The lent table": "Store adds a prefix or replaces its zone number; it says which, and gives the
+-- old number if there was one."
 --   Edit A              what an edit gives and leaves: its answer, the trail's bytes, the table's words
 --   acceptedOf k n s    the answer of an accepted store
 --   storeOn ws k z bs   the answer, the trail and the words, on any words
@@ -100,7 +101,8 @@ pub record Store (ws : List ℕ) (k : Prefix) (z : ℕ) (bs : List ℕ) (r : Sto
   pub left : (n : ℕ) → numberOf r ≡ suc n → us ≡ ws
   -- "all others return zero counts and leave every lent byte"
   pub kept : leavesAll (numberOf r) ≡ true → (valuesOf r ≡ 0 ∷ 0 ∷ 0 ∷ []) × (after ≡ bs)
-  -- on words that hold a map, with a valid key and room for its trail: what it says, the path's widths and length, and the new map
+  -- on words that hold a map, with a valid key and room for its trail: what it says, the path's widths and
+  -- length, and the new map
   pub meaning : (m : Map) → Holds ws m → Valid k → 129 ≤ length bs
       → r ≡ gives (overflows (capacity (length ws)) (entryOf k z) m) (length (path (keys m) (stringOf k))) (get (stringOf k) m)
   pub written : (m : Map) → Holds ws m → Valid k → 129 ≤ length bs

@@ -1,5 +1,6 @@
--- The laws of the whole-table check's yes: on words that hold a map every call answers as the map does, the check accepts exactly
--- such words and so every table that calls have made, and a whole listing counts each node once. No contract cites this file.
+-- The laws of the whole-table check's yes: on words that hold a map every call answers as the map does, the
+-- check accepts exactly such words and so every table that calls have made, and a whole listing counts each
+-- node once. No contract cites this file.
 -- Assumes nothing.
 use Prim.Native.Nat.{ℕ, _+_}
 use native.Mathlib.Omega.{arith}
@@ -62,7 +63,8 @@ listedCounts-counted ws m o (a ∷ rest) h f =
     let ih = listedCounts-counted ws m (next o (record { stored = m; size = a .size })) rest h (f .2) in
     rw (e, c, ih)
 
--- "A whole listing of an unchanged table, in slices, counts each node once plus the search path of each resume."
+-- "A whole listing of an unchanged table, in slices, counts each node once plus the search path of each
+-- resume."
 pub listedCounts-whole : (ws : List ℕ) (m : Map) (asked : List Asked) → Holds ws m → Follows ws m none asked
     → T (ended none (turns m (sizesOf asked)))
     → listedCounts ws asked ≡ length (nodes (keys m)) + pathed none (turns m (sizesOf asked))

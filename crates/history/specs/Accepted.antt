@@ -1,6 +1,7 @@
--- What the whole-table check's yes is worth: on memory that it accepts, every call answers as it does for one map.
--- Paper 01, "Numbered refusals": "It says yes for every table made by these calls. On memory it accepts, every call answers as it does for
--- that set."
+-- What the whole-table check's yes is worth: on memory that it accepts, every call answers as it does for one
+-- map.
+-- Paper 01, "Numbered refusals": "It says yes for every table made by these calls. On memory it accepts,
+-- every call answers as it does for that set."
 --   Answers ws m       every call on the words ws answers as the map m does
 --   Asked, Follows     the slices of one listing, each resuming at the last prefix given
 --   listedCounts       the sum of the counts that the slices answer

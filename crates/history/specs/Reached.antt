@@ -1,9 +1,11 @@
 -- The tables that calls have made, and what each keyed call reports there.
--- Paper 00, demand 3: "For any table reached from a fresh one by any calls, the nodes reported by a keyed call with a valid key and room for
--- its trail are those that the set stored before it, and the key alone, give; history adds nothing. They number at most the key's bits plus
--- one. An accepted edit changes at most three node records besides the header; a refused edit changes none."
+-- Paper 00, demand 3: "For any table reached from a fresh one by any calls, the nodes reported by a keyed
+-- call with a valid key and room for its trail are those that the set stored before it, and the key alone,
+-- give; history adds nothing. They number at most the key's bits plus one. An accepted edit changes at most
+-- three node records besides the header; a refused edit changes none."
 --   Reached ws m       the words and the map that come of a fresh table by any calls, refused ones too
---   Reports ..         a call reports the path of the set and the key: its length, its widths, at most width + 1 of them
+--   Reports ..         a call reports the path of the set and the key: its length, its widths, at most width
+--                      + 1 of them
 --   Demand3 ws m k bs  the third answer, for one key and one trail on one table
 -- Assumes nothing.
 use Prim.Native.Nat.{ℕ, suc, _+_, _≤_}
@@ -33,7 +35,8 @@ use Rattle.edits.specs.declared.Stored.the-variants as stored
 use Rattle.edits.specs.declared.Removal.{Removal}
 use Rattle.edits.specs.declared.Removal.the-variants as removal
 
--- the map after a store, by what the store answered: an accepted one puts the entry, a refused one leaves the map
+-- the map after a store, by what the store answered: an accepted one puts the entry, a refused one leaves the
+-- map
 abbrev pub afterStore : Stored → Entry → Map → Map
 afterStore (stored.Added n) e m = put e m
 afterStore (stored.Replaced n z) e m = put e m
@@ -51,7 +54,8 @@ afterRemove removal.ShortOut k m = m
 afterRemove removal.Damaged k m = m
 afterRemove (removal.Absent n) k m = m
 
--- "any table reached from a fresh one by any calls" (a reading call is lent the words for reading alone, and leaves them as they are)
+-- "any table reached from a fresh one by any calls" (a reading call is lent the words for reading alone, and
+-- leaves them as they are)
 pub data Reached : List ℕ → Map → Type 0 where
   made : (ws : List ℕ) → isTable (length ws) ≡ true → Reached (freshOn ws) []
   byStore : {ws : List ℕ} {m : Map} → Reached ws m → (k : Prefix) (z : ℕ) (bs : List ℕ)
@@ -59,8 +63,8 @@ pub data Reached : List ℕ → Map → Type 0 where
   byRemove : {ws : List ℕ} {m : Map} → Reached ws m → (k : Prefix) (bs : List ℕ)
       → Reached (removeOn ws k bs .words) (afterRemove (removeOn ws k bs .answer) k m)
 
--- "the nodes reported .. are those that the set stored before it, and the key alone, give": values, whose first is the number of nodes, and
--- the trail's bytes as they were and as they are
+-- "the nodes reported .. are those that the set stored before it, and the key alone, give": values, whose
+-- first is the number of nodes, and the trail's bytes as they were and as they are
 pub record Reports (m : Map) (k : Prefix) (bs : List ℕ) (values : List ℕ) (after : List ℕ) : Type 0 where
   pub number : take 1 values ≡ length (path (keys m) (stringOf k)) ∷ []
   pub widths : after ≡ trail (keys m) (stringOf k) ++ drop (length (path (keys m) (stringOf k))) bs

@@ -1,7 +1,8 @@
 -- Sequences of calls: what a table answers, and what the plain map answers.
 -- Paper 00, demand 2: "the table behaves as a plain map from prefixes to zone numbers".
 --   Call, Said         a keyed call, and an answer to one
---   onTable, onMap     what the words answer and become; what the map answers and becomes, in a table of c records
+--   onTable, onMap     what the words answer and become; what the map answers and becomes, in a table of c
+--                      records
 --   tableSays, mapSays the answers to calls one after the other
 -- Assumes nothing.
 use Prim.Native.Nat.{ℕ}

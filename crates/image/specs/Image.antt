@@ -1,5 +1,6 @@
 -- The image of a list: one byte string, over the record size.
--- Paper 01, "The image". The record size is 24 bits there; 28 and 32 are known to come (paper 02), and are defined once with it.
+-- Paper 01, "The image". The record size is 24 bits there; 28 and 32 are known to come (paper 02), and are
+-- defined once with it.
 --   Size, sizeBits       the record sizes
 --   properPrefixes k     the proper prefixes of a string, shortest first
 --   imageNodes s         the strings that are image nodes, in their order
@@ -41,7 +42,8 @@ abbrev pub properPrefixes : Bits → List Bits
 properPrefixes [] = []
 properPrefixes (x ∷ k) = [] ∷ map (λ p. x ∷ p) (properPrefixes k)
 
--- "the empty string always, and every string that is a proper prefix of a stored one. They are numbered from 0 in the order above."
+-- "the empty string always, and every string that is a proper prefix of a stored one. They are numbered from
+-- 0 in the order above."
 unfoldable pub imageNodes : List Bits → List Bits
 imageNodes s = inOrder ([] ∷ each properPrefixes s)
 
@@ -63,7 +65,8 @@ abbrev pub nodeOr : Option ℕ → Side → Side
 nodeOr none s = s
 nodeOr (some i) s = toNode i
 
--- "Side x of node p: if p followed by x is a node, its number; else the entry of the longest stored prefix of that string, or no data."
+-- "Side x of node p: if p followed by x is a node, its number; else the entry of the longest stored prefix of
+-- that string, or no data."
 unfoldable pub side : Map → List Bits → Bits → Side
 side m ns px = nodeOr (numberIn ns px) (leafOf (longestMatch px m))
 
@@ -116,7 +119,8 @@ recordOf n zs (toNode i) = i
 recordOf n zs noData = n
 recordOf n zs (toZone z) = n + 16 + offset zs z
 
--- (28: "the middle byte's upper half is the left record's top four bits, the lower half the right record's", paper 02)
+-- (28: "the middle byte's upper half is the left record's top four bits, the lower half the right record's",
+-- paper 02)
 abbrev pub nodeBytes : Size → ℕ → ℕ → List ℕ
 nodeBytes size24 l r = bytesOf 3 l ++ bytesOf 3 r
 nodeBytes size28 l r = bytesOf 3 l ++ ((l / 2 ^ 24 * 16 + r / 2 ^ 24) ∷ bytesOf 3 r)

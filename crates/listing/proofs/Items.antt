@@ -1,6 +1,7 @@
--- The nodes of a tree in their order, as a listing passes them, and the trees that a tour still has before it. Definitions that the laws of
--- listing share. No contract cites this file.
---   Item, items t       a node's link, string and number; the nodes of a tree, from the top, the side of 0 first
+-- The nodes of a tree in their order, as a listing passes them, and the trees that a tour still has before
+-- it. Definitions that the laws of listing share. No contract cites this file.
+--   Item, items t       a node's link, string and number; the nodes of a tree, from the top, the side of 0
+--                       first
 --   allItems ts         those of several trees, one after the other
 --   storedIn is         what they store
 --   upTo b is, past b is   the items up to the b-th stored one, and those after it
@@ -58,7 +59,8 @@ height (node a s v l r) = 1 + max (height l) (height r)
 abbrev pub Sound : List ℕ → Tree ℕ → Type 0
 Sound ws t = (a : ℕ) → List·Memᴰ a (labels t) → roomOf (length ws) a ≡ true
 
--- the first d links of the array ls lead to the trees ts, the last of them to the first tree; each has room on the stack for its height
+-- the first d links of the array ls lead to the trees ts, the last of them to the first tree; each has room
+-- on the stack for its height
 abbrev pub Stacked : List ℕ → List ℕ → ℕ → List (Tree ℕ) → Type 0
 Stacked ws ls d [] = d ≡ 0
 Stacked ws ls d (t ∷ ts) =

@@ -1,5 +1,5 @@
--- The laws of the tour over any words: one for each way out of its functions, the equations of a turn, and the
--- bounds on what it answers. No contract cites this file.
+-- The laws of the tour over any words: one for each way out of its functions, the equations of a turn, and
+-- the bounds on what it answers. No contract cites this file.
 -- Assumes nothing.
 use Prim.Native.Nat.{ℕ, zero, suc, _+_, _-_, _/_, _%_, _≤_, _<_}
 use native.Mathlib.Nat.{le-refl, le-trans}

@@ -44,7 +44,8 @@ abbrev pub Narrow : Resume → Type 0
 Narrow Start = Unit {0}
 Narrow (After k) = k .width ≤ 128
 
--- Nos. 1, 2, 4 and 5 in their order: BadSize, "b is 0 or above 4,096"; ShortOut, "listing .. output too short": "at least 6b words"
+-- Nos. 1, 2, 4 and 5 in their order: BadSize, "b is 0 or above 4,096"; ShortOut, "listing .. output too
+-- short": "at least 6b words"
 unfoldable pub refusedOf : ℕ → Resume → ℕ → ℕ → Refused
 refusedOf n r b room =
     cond (isTable n)

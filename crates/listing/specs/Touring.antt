@@ -1,4 +1,5 @@
--- The tour of a listing over any words: the way to the resume prefix, the stack of open links, and the nodes after it one by one.
+-- The tour of a listing over any words: the way to the resume prefix, the stack of open links, and the nodes
+-- after it one by one.
 -- Paper 01, "Listing in slices".
 --   pushOn, popOn       the stack with a link more, and the link to look at next
 --   partedOf, soughtOf, soughtOn   one step on the way to the resume prefix

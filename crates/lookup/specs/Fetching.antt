@@ -73,7 +73,8 @@ pub record Fetch (ws : List ℕ) (k : Prefix) (bs : List ℕ) (r : Fetched) (aft
   pub refusal : (n : ℕ) → firstRefusal ws k (length bs) ≡ suc n → numberOf r ≡ suc n
   -- "all others return zero counts and leave every lent byte"
   pub kept : leavesAll (numberOf r) ≡ true → (valuesOf r ≡ 0 ∷ 0 ∷ []) × (after ≡ bs)
-  -- on words that hold a map, with a valid key and room for its trail: the stored number, and the path's widths and length
+  -- on words that hold a map, with a valid key and room for its trail: the stored number, and the path's
+  -- widths and length
   pub meaning : (m : Map) → Holds ws m → Valid k → 129 ≤ length bs → r ≡ gives (length (path (keys m) (stringOf k))) (get (stringOf k) m)
   pub written : (m : Map) → Holds ws m → Valid k → 129 ≤ length bs
       → after ≡ trail (keys m) (stringOf k) ++ drop (length (path (keys m) (stringOf k))) bs

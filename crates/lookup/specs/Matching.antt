@@ -1,5 +1,6 @@
 -- Longest match: what it answers on any words, and its promise.
--- Paper 01, "The lent table": "Longest match returns the width and zone number of the longest stored prefix of the key, or 'no match'."
+-- Paper 01, "The lent table": "Longest match returns the width and zone number of the longest stored prefix
+-- of the key, or 'no match'."
 --   matchOf n s         the answer where the walk has ended after n nodes
 --   matchedOf x         the answer that comes of a survey
 --   longestOn ws k bs   the answer and the trail's bytes, on any words
@@ -73,7 +74,8 @@ pub record LongestMatch (ws : List ℕ) (k : Prefix) (bs : List ℕ) (r : Matche
   pub refusal : (n : ℕ) → firstRefusal ws k (length bs) ≡ suc n → numberOf r ≡ suc n
   -- "all others return zero counts and leave every lent byte"
   pub kept : leavesAll (numberOf r) ≡ true → (valuesOf r ≡ 0 ∷ 0 ∷ 0 ∷ 0 ∷ []) × (after ≡ bs)
-  -- on words that hold a map, with a valid key and room for its trail: the longest stored prefix, and the path's widths and length
+  -- on words that hold a map, with a valid key and room for its trail: the longest stored prefix, and the
+  -- path's widths and length
   pub meaning : (m : Map) → Holds ws m → Valid k → 129 ≤ length bs
       → r ≡ gives (length (path (keys m) (stringOf k))) (longestMatch (stringOf k) m)
   pub written : (m : Map) → Holds ws m → Valid k → 129 ≤ length bs

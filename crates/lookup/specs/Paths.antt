@@ -1,5 +1,6 @@
 -- The records of a path: which they are, and when two memories agree there.
--- Paper 01, "The lent table": "any memory of the same length that agrees with it in the header and in the records of the path's nodes".
+-- Paper 01, "The lent table": "any memory of the same length that agrees with it in the header and in the
+-- records of the path's nodes".
 --   pathLinks t k    the links of the nodes that a walk for k meets in the tree t
 --   Agree us ws ls   two memories have the same length and header, and the same records at the links ls
 -- Assumes nothing.

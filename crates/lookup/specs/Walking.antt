@@ -1,4 +1,5 @@
--- The path walk over a table's words, for any words: one step, the steps one after the other, and the refusals before them.
+-- The path walk over a table's words, for any words: one step, the steps one after the other, and the
+-- refusals before them.
 -- Paper 01, "The tree of a set", "The lent table" and "Numbered refusals".
 --   sharedOn r k      the bits that a record's key shares with k
 --   sideOn r k w      the link of the side that k goes on by at a node of width w
@@ -51,7 +52,8 @@ downOn r k s =
       zone = cond (odd (r .tag)) (r .zone) (s .zone);
     }
 
--- (a node of a table is at most 128 wide, and shares with the key its parent's string and the side's bit: so widths grow)
+-- (a node of a table is at most 128 wide, and shares with the key its parent's string and the side's bit: so
+-- widths grow)
 unfoldable pub seenOn : Record → Prefix → Walk → Step
 seenOn r k s =
     cond (ltb 128 (r .tag / 2)) Bad
@@ -94,13 +96,13 @@ surveyOn ws k room ts =
     (record { widths = ts; out = BadPrefix }))
     (record { widths = ts; out = BadLength })
 
--- Nos. 1, 2 and 5 in their order, 0 where none of them applies: BadLength, "the table memory has another length"; BadPrefix, "width above
--- 128, or a bit set after the width"; ShortOut, "trail .. too short"
+-- Nos. 1, 2 and 5 in their order, 0 where none of them applies: BadLength, "the table memory has another
+-- length"; BadPrefix, "width above 128, or a bit set after the width"; ShortOut, "trail .. too short"
 unfoldable pub firstRefusal : List ℕ → Prefix → ℕ → ℕ
 firstRefusal ws k room = cond (isTable (length ws)) (cond (isValid k) (cond (ltb room 129) 5 0) 2) 1
 
--- "Absent and Full write the trail and return its number; all others return zero counts and leave every lent byte"
--- (a refusal by its number: every one but 7 and 8)
+-- "Absent and Full write the trail and return its number; all others return zero counts and leave every lent
+-- byte" (a refusal by its number: every one but 7 and 8)
 unfoldable pub leavesAll : ℕ → Bool
 leavesAll n = not (eqb n 0 || (eqb n 7 || eqb n 8))
 

@@ -1,5 +1,5 @@
--- The laws of applying and of a store's plan over any words, one for each way out of their functions. No contract
--- cites this file.
+-- The laws of applying and of a store's plan over any words, one for each way out of their functions. No
+-- contract cites this file.
 -- Assumes nothing.
 use Prim.Native.Nat.{ℕ, _+_, _*_, _/_, _≤_, _<_}
 use mathlib.Core.Path.{_≡_}

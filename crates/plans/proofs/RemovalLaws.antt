@@ -1,4 +1,5 @@
--- The laws of a remove's plan over any words, one for each way out of its functions. No contract cites this file.
+-- The laws of a remove's plan over any words, one for each way out of its functions. No contract cites this
+-- file.
 -- Assumes nothing.
 use Prim.Native.Nat.{ℕ, _*_, _/_, _%_, _≤_, _<_}
 use mathlib.Core.Path.{_≡_}

@@ -1,12 +1,15 @@
--- The plan of an edit, for any words: what a store and a remove will write, from where the walk ended; and the words once it is written.
--- Paper 01, "The lent table"; paper 00, demand 3: "An accepted edit changes at most three node records besides the header".
+-- The plan of an edit, for any words: what a store and a remove will write, from where the walk ended; and
+-- the words once it is written.
+-- Paper 01, "The lent table"; paper 00, demand 3: "An accepted edit changes at most three node records
+-- besides the header".
 --   entryOf k z                the entry that a store adds
 --   nowhereOf, nodeOf, freedOf   writes and records by value
 --   wrote ws w, applied ws p   the words with a write, with a plan
 --   Fitting ws p               the places of a plan are in the table
 --   lookOn, spareOn            what a link leads to, as a node and as a spare record
 --   hangOn, planOf             a link hung from a node or at the top, and the plan of that
---   planStoreOn                a store: hereOn where the key has a node, else newOn, by aboveOn or forkOn where a node is in the way
+--   planStoreOn                a store: hereOn where the key has a node, else newOn, by aboveOn or forkOn
+--                              where a node is in the way
 --   planRemoveOn               a remove: outOn by the node's sides, passOn, aloneOn and twinOn
 -- Assumes nothing.
 use Prim.Native.Nat.{ℕ, _+_, _*_, _/_, _≤_}

@@ -1,9 +1,11 @@
 -- When words are a table of a map: the bridge between the paper's sets and the memory.
--- Paper 01, "Numbered refusals": the whole-table check "says yes exactly if, for some set, the records in use are that set's tree,
--- each node once and linked as the tree is, and every other record is spare and open to later stores".
+-- Paper 01, "Numbered refusals": the whole-table check "says yes exactly if, for some set, the records in use
+-- are that set's tree, each node once and linked as the tree is, and every other record is spare and open to
+-- later stores".
 --   Memory              what a table's words are to a tree: a record for each link
 --   labels t            the links of a tree's nodes, from the top, the side of 0 first
---   Linked mem l t      from the link l the records are linked as the tree t is, each with its node's string and number
+--   Linked mem l t      from the link l the records are linked as the tree t is, each with its node's string
+--                       and number
 --   Chained mem l ls    from the link l the spare records ls hang together, each by the one before, and end
 --   times l ls          how often the link l stands in ls
 --   Once c ls           ls has every record from 1 to c exactly once, and nothing else
@@ -52,7 +54,8 @@ abbrev pub times : ℕ → List ℕ → ℕ
 times l [] = 0
 times l (a ∷ ls) = cond (eqb l a) 1 0 + times l ls
 
--- "each node once .. and every other record": every record from 1 to c stands in the list exactly once, and nothing else does
+-- "each node once .. and every other record": every record from 1 to c stands in the list exactly once, and
+-- nothing else does
 abbrev pub Once : ℕ → List ℕ → Type 0
 Once c ls = (l : ℕ) → times l ls ≡ cond (ltb 0 l && leb l c) 1 0
 

@@ -1,4 +1,5 @@
--- The laws of a map: what a store and a remove do to every key, and that a map is what it answers. No contract cites this file.
+-- The laws of a map: what a store and a remove do to every key, and that a map is what it answers. No
+-- contract cites this file.
 -- Assumes nothing.
 use Prim.Native.Nat.{ℕ}
 use mathlib.Core.Path.{_≡_, refl, sym, ap, _∙_}

@@ -1,4 +1,5 @@
--- The laws of the longest match: it is the widest stored prefix of the key, and no other. No contract cites this file.
+-- The laws of the longest match: it is the widest stored prefix of the key, and no other. No contract cites
+-- this file.
 -- Assumes nothing.
 use Prim.Native.Nat.{ℕ, _≤_, _<_}
 use native.Mathlib.Nat.{le-antisymm}

@@ -1,5 +1,5 @@
--- The laws of sets of strings and of a set's nodes: a string is a node exactly if it is the longest common prefix of two members,
--- and the nodes ascend. No contract cites this file.
+-- The laws of sets of strings and of a set's nodes: a string is a node exactly if it is the longest common
+-- prefix of two members, and the nodes ascend. No contract cites this file.
 -- Assumes nothing.
 use mathlib.Core.Path.{_≡_, refl, sym, ap, _∙_}
 use mathlib.Core.Bool.{Bool, true, false, _||_, _&&_, or-self-left}

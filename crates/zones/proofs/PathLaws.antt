@@ -1,4 +1,5 @@
--- The laws of the path of a key: it has at most one node more than the key has bits. No contract cites this file.
+-- The laws of the path of a key: it has at most one node more than the key has bits. No contract cites this
+-- file.
 -- Assumes nothing.
 use Prim.Native.Nat.{ℕ, suc, _+_, _≤_, _<_, zero-le}
 use native.Mathlib.Omega.{arith}

@@ -1,4 +1,5 @@
--- Where a search for a key ends in a tree: what lies below, and what stands above. An edit changes the one and leaves the other.
+-- Where a search for a key ends in a tree: what lies below, and what stands above. An edit changes the one
+-- and leaves the other.
 --   Context A         a tree with a place left open, from the place upwards
 --   plug c t          the whole tree, with t in the open place
 --   pull c t          the same after a remove: a node that stores nothing and has lost a side goes too
@@ -15,7 +16,8 @@ use Rattle.zones.specs.Tree.{Tree, tip, node, onward, collapse}
 
 pub data Context (A : Type 0) : Type 0 where
   top : Context A
-  -- a node, on a side of which the place is: its label, string and number, the side, the tree on the other side, and what is above
+  -- a node, on a side of which the place is: its label, string and number, the side, the tree on the other
+  -- side, and what is above
   into : A → Bits → Option ℕ → Bool → Tree A → Context A → Context A
 
 pub record Focus (A : Type 0) : Type 0 where

@@ -1,5 +1,6 @@
 -- A stored set with its zone numbers: a plain map from bit strings to numbers.
--- Paper 00, demand 2: "the table behaves as a plain map from prefixes to zone numbers". Paper 01, "The lent table".
+-- Paper 00, demand 2: "the table behaves as a plain map from prefixes to zone numbers". Paper 01, "The lent
+-- table".
 --   Entry, Map          a string with its zone number; a list of them
 --   keys m              the strings of m
 --   ascending m         the keys strictly ascend: then m is a map, and two that answer alike are one

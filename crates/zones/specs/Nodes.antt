@@ -53,16 +53,18 @@ abbrev pub shortest : List Bits → List Bits
 shortest [] = []
 shortest (p ∷ ps) = shorter p (shortest ps)
 
--- "all nodes that are prefixes of k, shortest first" (of prefixes of one string the shorter comes first in the order)
+-- "all nodes that are prefixes of k, shortest first" (of prefixes of one string the shorter comes first in
+-- the order)
 unfoldable pub prefixNodes : List Bits → Bits → List Bits
 prefixNodes s k = keep (λ p. isPrefix p k) (nodes s)
 
--- "If some stored prefix begins with d, the last node is the shortest node that begins with d. If none does, there is no last node."
+-- "If some stored prefix begins with d, the last node is the shortest node that begins with d. If none does,
+-- there is no last node."
 unfoldable pub beyond : List Bits → Bits → List Bits
 beyond s d = cond (any (isPrefix d) s) (shortest (keep (isPrefix d) (nodes s))) []
 
--- "No such q: the last node is the shortest node of the tree, if S is not empty. q as wide as k: no last node.
--- otherwise: let d be q followed by k's next bit."
+-- "No such q: the last node is the shortest node of the tree, if S is not empty. q as wide as k: no last
+-- node. otherwise: let d be q followed by k's next bit."
 unfoldable pub lastNode : List Bits → Bits → Option Bits → List Bits
 lastNode s k none = shortest (nodes s)
 lastNode s k (some q) = cond (eqb (length q) (length k)) [] (beyond s (take (suc (length q)) k))

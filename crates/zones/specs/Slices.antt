@@ -33,7 +33,8 @@ after (some r) p = before r p
 unfoldable pub left : Map → Option Bits → Map
 left m r = keep (λ e. after r (e .key)) m
 
--- "the first b stored prefixes that come strictly after the resume prefix .., or all of them if fewer are left"
+-- "the first b stored prefixes that come strictly after the resume prefix .., or all of them if fewer are
+-- left"
 unfoldable pub given : Map → Option Bits → ℕ → Map
 given m r b = take b (left m r)
 

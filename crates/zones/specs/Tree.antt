@@ -1,9 +1,12 @@
--- The tree itself, linked: what holds a set's nodes each once, so that a walk finds a key's path. The paper says which strings
--- are nodes and which of them a path has; this is the shape in which both come out, and which the words of a table are held to.
--- Paper 01, "The tree of a set": the radix tree "in the path-compressed form that keeps each node's whole string".
---   Tree A            a tree whose nodes also bear a label of A: nothing here, the place of its record in a table
---   Good p t          every string of t begins with p, each side's with the node's string and the side's bit, and a node that
---                     stores nothing has both sides
+-- The tree itself, linked: what holds a set's nodes each once, so that a walk finds a key's path. The paper
+-- says which strings are nodes and which of them a path has; this is the shape in which both come out, and
+-- which the words of a table are held to.
+-- Paper 01, "The tree of a set": the radix tree "in the path-compressed form that keeps each node's whole
+-- string".
+--   Tree A            a tree whose nodes also bear a label of A: nothing here, the place of its record in a
+--                     table
+--   Good p t          every string of t begins with p, each side's with the node's string and the side's bit,
+--                     and a node that stores nothing has both sides
 --   entries t         the map that t stores
 --   strings t         the strings of its nodes, from the top, the side of 0 first
 --   walk t k          the strings of the nodes that a search for k meets

@@ -1,4 +1,5 @@
--- `ageing::age` meets its contract: the table keeps its length, and `i` goes up by ones to 100,000. Assumes nothing.
+-- `ageing::age` meets its contract: the table keeps its length, and `i` goes up by ones to 100,000. Assumes
+-- nothing.
 use mathlib.Core.Path.{_≡_}
 use Prim.Native.Nat.{_-_}
 use borrow.Author.Needs.{needs}

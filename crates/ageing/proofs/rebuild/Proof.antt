@@ -1,4 +1,5 @@
--- `ageing::rebuild` meets its contract: `new` keeps its length, and `i` goes up by ones to 256. Assumes nothing.
+-- `ageing::rebuild` meets its contract: `new` keeps its length, and `i` goes up by ones to 256. Assumes
+-- nothing.
 use mathlib.Core.Path.{_≡_}
 use Prim.Native.Nat.{_-_}
 use borrow.Author.Needs.{needs}

@@ -1,4 +1,5 @@
--- `records::write_record` meets its contract: eight words are set, one after the other, and a set keeps the length.
+-- `records::write_record` meets its contract: eight words are set, one after the other, and a set keeps the
+-- length.
 -- Assumes nothing.
 use native.Mathlib.Omega.{arith}
 use lib.ListN.{length-set}

@@ -1,4 +1,5 @@
--- `tables::trail` meets its contract: `i` goes up by ones to `n`, and is below 129 where a byte is read. Assumes nothing.
+-- `tables::trail` meets its contract: `i` goes up by ones to `n`, and is below 129 where a byte is read.
+-- Assumes nothing.
 use Prim.Native.Nat.{_-_}
 use borrow.Author.Needs.{needs}
 use Rattle.tables.proofs.trail.Statement.{statement}
