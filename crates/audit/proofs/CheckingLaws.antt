@@ -15,11 +15,11 @@ use Rattle.bits.specs.Numbers.{odd}
 use Rattle.bits.proofs.BitsLaws.{isPrefix-length, length-lcp, isPrefix-lcp}
 use Rattle.prefix.specs.Keys.{stringOf, isValid, Valid, Validity}
 use Rattle.prefix.specs.declared.Prefix.{Prefix}
-use Rattle.prefix.proofs.KeysLaws.{length-stringOf, isValid-true}
+use Rattle.prefix.proofs.KeysLaws.{length-stringOf, both-true, isValid-true}
 use Rattle.records.specs.Layout.{isTable, capacity, roomOf, Inside, recordAt, headerAt, keyOf, isSpare}
 use Rattle.records.specs.declared.Record.{Record}
 use Rattle.records.specs.declared.Header.{Header}
-use Rattle.records.proofs.LayoutLaws.{Table, isTable-true, inside-roomOf}
+use Rattle.records.proofs.LayoutLaws.{Table, isTable-true}
 use Rattle.audit.specs.Checking.{lowOf, stands, isNode, thenOn, belowOn, chainOn, auditOf, auditOn}
 use Rattle.audit.specs.declared.Place.{Place}
 use Rattle.audit.specs.declared.Place.the-variants.{Top, Under}
@@ -94,10 +94,6 @@ module _ (r : Record) (at : Place) (k : Prefix) (e : k ≡ keyOf r) (b : Bool) (
     pub isNode-here : not d ≡ false → (odd (r .tag) || (ltb 0 (r .left) && ltb 0 (r .right))) ≡ isNode r at
     unfolding isNode
     isNode-here u = rw (← e, ← v .answer, not-false b t, ← s, not-false d u)
-
-both-true : (a b : Bool) → (a && b) ≡ true → (a ≡ true) × (b ≡ true)
-both-true true b h = (refl, h)
-both-true false b h = (h, cc)
 
 -- a node's width lies between what its place wants and 128
 pub record Fair (at : Place) (n : ℕ) : Type 0 where
@@ -181,9 +177,6 @@ module _ (ws : List ℕ) (l : ℕ) (at : Place) (left : ℕ) where
       pub belowOn-right : (m : ℕ) (y : Counted) → x ≡ Left m → Counts ws (r .right) (Under k true) m y → Counts ws l at left y
       belowOn-right m y q s zero g = absurd (omega arith)
       belowOn-right m y q s (suc f) g = let w = node-fair in belowOn-node f ∙ rw (e f (omega arith), q) (s f (omega arith))
-
-pub inside-room : (ws : List ℕ) (l : ℕ) (b : Bool) → b ≡ roomOf (length ws) l → not b ≡ false → Inside ws l
-inside-room ws l b e t = inside-roomOf ws l (sym e ∙ not-false b t)
 
 -- ---- chainOn
 

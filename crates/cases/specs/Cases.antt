@@ -35,7 +35,7 @@ pub data Question : Type 0 where
 pub data Answer : Type 0 where
   strings : List Bits → Answer
   -- the trail and the longest match
-  found′ : List ℕ → Option Entry → Answer
+  lookedUp : List ℕ → Option Entry → Answer
   full : Bool → Answer
   -- what is given, the count, whether more remain
   listed : Map → ℕ → Bool → Answer
@@ -43,7 +43,7 @@ pub data Answer : Type 0 where
 
 abbrev pub answer : Question → Answer
 answer (nodesOf m) = strings (nodes (keys m))
-answer (lookUp k m) = found′ (trail (keys m) k) (longestMatch k m)
+answer (lookUp k m) = lookedUp (trail (keys m) k) (longestMatch k m)
 answer (store c e m) = full (overflows c e m)
 answer (slice m r b) = listed (given m r b) (count m r b) (remains m r b)
 answer (columnOf longitude) = number (column longitude)
@@ -66,8 +66,8 @@ abbrev pub setA : Map
 setA = entry "00" 10 ∷ entry "01" 20 ∷ entry "0110" 30 ∷ []
 
 -- the sets of M7 and M8, whose zone numbers the paper leaves open
-abbrev pub zero′ : Map
-zero′ = entry "0" 1 ∷ []
+abbrev pub justZero : Map
+justZero = entry "0" 1 ∷ []
 
 abbrev pub zeroAndTen : Map
 zeroAndTen = entry "0" 1 ∷ entry "10" 2 ∷ []
@@ -77,19 +77,19 @@ cases =
     -- M1 "A's nodes in order: 0, 00, 01, 0110."
     (nodesOf setA ⇒ strings (bits "0" ∷ bits "00" ∷ bits "01" ∷ bits "0110" ∷ []))
     -- M2 "0111 in A: trail 1 2 4, answer 20 at width 2."
-    ∷ (lookUp (bits "0111") setA ⇒ found′ (1 ∷ 2 ∷ 4 ∷ []) (some (entry "01" 20)))
+    ∷ (lookUp (bits "0111") setA ⇒ lookedUp (1 ∷ 2 ∷ 4 ∷ []) (some (entry "01" 20)))
     -- M3 "0101 in A: trail 1 2, answer 20."
-    ∷ (lookUp (bits "0101") setA ⇒ found′ (1 ∷ 2 ∷ []) (some (entry "01" 20)))
+    ∷ (lookUp (bits "0101") setA ⇒ lookedUp (1 ∷ 2 ∷ []) (some (entry "01" 20)))
     -- M4 "the key 1 in A: trail 1, no match."
-    ∷ (lookUp (bits "1") setA ⇒ found′ (1 ∷ []) none)
+    ∷ (lookUp (bits "1") setA ⇒ lookedUp (1 ∷ []) none)
     -- M5 "the empty key: the same."
-    ∷ (lookUp (bits "") setA ⇒ found′ (1 ∷ []) none)
+    ∷ (lookUp (bits "") setA ⇒ lookedUp (1 ∷ []) none)
     -- M6 "A without 00: nodes 01, 0110."
     ∷ (nodesOf (without (bits "00") setA) ⇒ strings (bits "01" ∷ bits "0110" ∷ []))
     -- M7 "c = 2 holding 0: storing 10 is Full (nodes empty, 0, 10); storing 00 is accepted."
-    ∷ (store 2 (entry "10" 2) zero′ ⇒ full true)
+    ∷ (store 2 (entry "10" 2) justZero ⇒ full true)
     ∷ (nodesOf zeroAndTen ⇒ strings (bits "" ∷ bits "0" ∷ bits "10" ∷ []))
-    ∷ (store 2 (entry "00" 2) zero′ ⇒ full false)
+    ∷ (store 2 (entry "00" 2) justZero ⇒ full false)
     -- M8 "c = 3 holding 0 and 10: storing the empty prefix is accepted."
     ∷ (store 3 (entry "" 3) zeroAndTen ⇒ full false)
     -- M9 "A in slices of 2: 00, 01 with count 3, more; after 01: 0110 with count 3, no more."

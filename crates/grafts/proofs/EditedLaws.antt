@@ -1,7 +1,6 @@
 -- The laws of words that an edit has changed where a search ended: they are a table of the tree so changed.
 -- A node is made anew in its place, or what lies in the open place gives way to a part of it and the other
 -- records become spare. No contract cites this file.
---   timesIn           how often a link stands in the open place, above it and in the chain
 -- Assumes nothing.
 use Prim.Native.Nat.{ℕ, _+_, _≤_, _<_}
 use native.Mathlib.Omega.{arith}
@@ -19,42 +18,9 @@ use Rattle.records.proofs.OnceLaws.{times-append, mem-times, times-mem, once-bo
 use Rattle.records.proofs.HoldsLaws.{linked-ext, chained-ext}
 use Rattle.records.proofs.GraftLaws.{labelsAbove, times-plug, Opened, linked-plug, framed-ext, holds-edit}
 use Rattle.grafts.proofs.HangLaws.{rootWith, Hanged, framed-hang}
-
--- ---- times: the records of the open place, of what is above it and of the chain are different ones
-
--- the node above the open place is none of those that do not stand above it
-linkAt-differs : (c : Context ℕ) (b : ℕ) → 0 < b → times b (labelsAbove c) ≡ 0 → b ≡ linkAt 0 c → ⊥
-linkAt-differs top b h n e = omega arith
-linkAt-differs (into a p v x o c) b h n e =
-    let i = mem-times b (a ∷ (labels o ++ labelsAbove c)) (List·Memᴰ·head e) in
-    omega arith
+use Rattle.grafts.proofs.OpenedLaws.{aside-linkAt, opened-at, opened-once, opened-bounds}
 
 module _ {ws : List ℕ} {m : Map} (h : Holds ws m) (c : Context ℕ) (t : Tree ℕ) (e : h .tree ≡ plug c t) where
-  abbrev pub timesIn : ℕ → ℕ
-  timesIn b = times b (labels t) + times b (labelsAbove c) + times b (h .chain)
-
-  times-parts : (b : ℕ) → times b (labels (h .tree) ++ h .chain) ≡ timesIn b
-  times-parts b = rw e (omega (arith, times-plug b c t, times-append b (labels (plug c t)) (h .chain)))
-
-  pub times-most : (b : ℕ) → timesIn b ≤ 1
-  times-most b = rw (times-parts b) at (once-most (h .records) (labels (h .tree) ++ h .chain) (h .once) b)
-
-  times-bounds : (b : ℕ) → 1 ≤ timesIn b → (0 < b) × (b ≤ h .records)
-  times-bounds b i =
-      once-bounds (h .records) (labels (h .tree) ++ h .chain) (h .once) b
-      (times-mem b (labels (h .tree) ++ h .chain) (rw (times-parts b) i))
-
-  pub times-positive : (b : ℕ) → 1 ≤ timesIn b → 0 < b
-  times-positive b i = times-bounds b i .0
-
-  pub times-fits : (b : ℕ) → 1 ≤ timesIn b → place b + 8 ≤ length ws
-  times-fits b i = rw (h .length-is) (omega (arith, times-bounds b i .1))
-
-  -- ---- the parts of a table, where the tree is open
-
-  opened : Opened (recordAt ws) (headerAt ws .root) c t
-  opened = linked-plug (recordAt ws) (headerAt ws .root) c t (rw e at (h .linked))
-
   -- a chain whose records are as they were
   chained-kept : (us : List ℕ) → ((b : ℕ) → 1 ≤ times b (h .chain) → recordAt ws b ≡ recordAt us b)
       → Chained (recordAt us) (headerAt ws .spare) (h .chain)
@@ -78,23 +44,23 @@ module _ {ws : List ℕ} {m : Map} (h : Holds ws m) (c : Context ℕ) (t : Tree 
     same-below : (b : ℕ) → 1 ≤ times b (labels t′) + times b (h .chain) → recordAt ws b ≡ recordAt us b
     same-below b i =
         let n = parts b in
-        let j = times-most b in
-        let p = times-positive b (omega arith) in
-        sym (others b p (linkAt-differs c b p (omega arith)) (omega arith))
+        let j = opened-once h c t e b in
+        let p = opened-bounds h c t e b (omega arith) .0 in
+        sym (others b p (aside-linkAt c b p (omega arith)) (omega arith))
 
     same-above : (b : ℕ) → List·Memᴰ b (labelsAbove c) → (b ≡ linkAt 0 c → ⊥) → recordAt us b ≡ recordAt ws b
     same-above b i d =
         let n = parts b in
-        let j = times-most b in
+        let j = opened-once h c t e b in
         let q = mem-times b (labelsAbove c) i in
-        others b (times-positive b (omega arith)) d (omega arith)
+        others b (opened-bounds h c t e b (omega arith) .0) d (omega arith)
 
     pub holds-cut : length us ≡ length ws → headerAt us .root ≡ rootWith c (headerAt ws .root) l → Hanged ws us c l
         → Linked (recordAt ws) l t′
         → (Chained (recordAt us) (headerAt ws .spare) (h .chain) → Chained (recordAt us) (headerAt us .spare) (fs ++ h .chain))
         → Good [] (plug c t′) → Holds us (entries (plug c t′))
     holds-cut n root w i chains g =
-        let framed = framed-hang ws us c (opened .link) l (opened .framed) root w same-above (λ b. omega (arith, times-most b)) in
+        let framed = framed-hang ws us c (opened-at h c t e .link) l (opened-at h c t e .framed) root w same-above (λ b. omega (arith, opened-once h c t e b)) in
         let linked = linked-ext (recordAt ws) (recordAt us) l t′ (λ b j. same-below b (omega (arith, mem-times b (labels t′) j))) i in
         let chained = chains (chained-kept us (λ b j. same-below b (omega arith))) in
         holds-edit h c t t′ us (fs ++ h .chain) l e n framed linked chained g
@@ -105,12 +71,12 @@ module _ {ws : List ℕ} {m : Map} (h : Holds ws m) (c : Context ℕ) (t : Tree 
 module _ {ws : List ℕ} {m : Map} (h : Holds ws m) (c : Context ℕ) (a : ℕ) (p : Bits) (v v′ : Option ℕ) (x y : Tree ℕ)
     (e : h .tree ≡ plug c (node a p v x y)) (us : List ℕ) (others : (b : ℕ) → 0 < b → (b ≡ a → ⊥) → recordAt us b ≡ recordAt ws b) where
   abbrev before : Opened (recordAt ws) (headerAt ws .root) c (node a p v x y)
-  before = opened h c (node a p v x y) e
+  before = opened-at h c (node a p v x y) e
 
   same-here : (b : ℕ) → 1 ≤ times b (labels x ++ labels y) + times b (labelsAbove c) + times b (h .chain) → recordAt ws b ≡ recordAt us b
   same-here b i =
-      let j = times-most h c (node a p v x y) e b in
-      sym (others b (times-positive h c (node a p v x y) e b (omega arith))
+      let j = opened-once h c (node a p v x y) e b in
+      sym (others b (opened-bounds h c (node a p v x y) e b (omega arith) .0)
       (λ q. let n = mem-times b (a ∷ []) (List·Memᴰ·head q) in omega arith))
 
   -- a side stays linked

@@ -28,13 +28,13 @@ use Rattle.grafts.proofs.PlanHoldsLaws.{hangPlan}
 
 -- ---- hangWrite
 
-link-hangWrite : (ws : List ℕ) (c : Context ℕ) (l : ℕ) → hangWrite ws c l .link ≡ linkAt 0 c
+pub link-hangWrite : (ws : List ℕ) (c : Context ℕ) (l : ℕ) → hangWrite ws c l .link ≡ linkAt 0 c
 unfolding nowhereOf
 link-hangWrite ws top l = refl
 link-hangWrite ws (into a p v x o c) l = refl
 
 -- a link that does not stand above the place is not the first one above it
-aside-linkAt : (c : Context ℕ) (b : ℕ) → 0 < b → times b (labelsAbove c) ≡ 0 → b ≡ linkAt 0 c → ⊥
+pub aside-linkAt : (c : Context ℕ) (b : ℕ) → 0 < b → times b (labelsAbove c) ≡ 0 → b ≡ linkAt 0 c → ⊥
 aside-linkAt top b h n e = omega arith
 aside-linkAt (into a p v x o c) b h n e = let i = rw (eq-eqb b a e) at n in omega arith
 

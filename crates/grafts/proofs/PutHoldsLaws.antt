@@ -26,8 +26,8 @@ use Rattle.records.proofs.OnceLaws.{times-append, length-once}
 use Rattle.records.proofs.HoldsLaws.{length-labels, nodes-holds}
 use Rattle.records.proofs.GraftLaws.{times-plug, length-plug, Framed, holds-edit}
 use Rattle.lookup.proofs.FramesLaws.{Frames}
-use Rattle.plans.specs.Planning.{nodeOf}
-use Rattle.plans.specs.Planning.{entryOf}
+use Rattle.plans.specs.Planning.{nodeOf, entryOf}
+use Rattle.grafts.proofs.PlanRemoveLaws.{keyOf-nodeOf}
 
 -- ---- overflows
 
@@ -84,10 +84,6 @@ module _ {ws : List ℕ} {m : Map} {h : Holds ws m} {k : Prefix} {z : ℕ} {c : 
       (lt-ltb (h .records) (length (labels (plug c t))) (omega (arith, length-plug c t, length-plug c u)))
 
 -- ---- Bears: the records that a store writes
-
-keyOf-nodeOf : (k : Prefix) (tag zone left right : ℕ) → tag / 2 ≡ k .width → keyOf (nodeOf k tag zone left right) ≡ k
-unfolding keyOf nodeOf
-keyOf-nodeOf k tag zone left right e = λ i. record { width = e i; w0 = k .w0; w1 = k .w1; w2 = k .w2; w3 = k .w3 }
 
 -- a node that stores z
 pub bears-stored : (k : Prefix) (z left right : ℕ) → Valid k → Bears (nodeOf k (2 * k .width + 1) z left right) (stringOf k) (some z)

@@ -29,7 +29,7 @@ use Rattle.lookup.proofs.FramesLaws.{Frames}
 use Rattle.plans.specs.Planning.{applied, planRemoveOn}
 use Rattle.plans.specs.declared.Plan.{Plan}
 use Rattle.plans.specs.declared.Planned.the-variants as planned
-use Rattle.grafts.proofs.EditedLaws.{timesIn, times-positive, times-fits}
+use Rattle.grafts.proofs.OpenedLaws.{timesIn, opened-bounds}
 use Rattle.grafts.proofs.PlanRemoveLaws.{emptyPlan, passPlan, twinPlan, Stays, planRemoveOn-both, planRemoveOn-low, planRemoveOn-high, planRemoveOn-stays, planRemoveOn-twin}
 use Rattle.grafts.proofs.RemoveWordsLaws.{holds-empty, holds-pass, holds-twin}
 
@@ -63,7 +63,7 @@ module _ {ws : List ℕ} {m : Map} (h : Holds ws m) (k : Prefix) (valid : Valid 
     stands = omega (arith, mem-times a (labels (here l r)) (List·Memᴰ·head refl))
 
     room : roomOf (length ws) a ≡ true
-    room = room-roomOf (length ws) a (times-positive h c (here l r) e a stands) (times-fits h c (here l r) e a stands)
+    room = room-roomOf (length ws) a (opened-bounds h c (here l r) e a stands .0) (opened-bounds h c (here l r) e a stands .1)
 
     above : GoodAbove c
     above = good-plug c (here l r) (rw e at (h .good)) .1
@@ -79,7 +79,7 @@ module _ {ws : List ℕ} {m : Map} (h : Holds ws m) (k : Prefix) (valid : Valid 
         → ((d : ℕ) → times d (labels t) ≤ times d (labels l ++ labels r)) → 0 < b
     positive-side (node d p v x y) b f i w =
         let j = mem-times d (labels (node d p v x y)) (List·Memᴰ·head refl) in
-        rw (i .0) (times-positive h c (here l r) e d (omega (arith, w d)))
+        rw (i .0) (opened-bounds h c (here l r) e d (omega (arith, w d)) .0)
 
     positive-low : T (full l) → 0 < recordAt ws a .left
     positive-low f = positive-side l (recordAt ws a .left) f linked-low (λ d. omega (arith, times-append d (labels l) (labels r)))

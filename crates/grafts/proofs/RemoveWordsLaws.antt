@@ -23,7 +23,8 @@ use Rattle.plans.specs.Planning.{nodeOf, freedOf, nowhereOf, applied, Fitting}
 use Rattle.plans.specs.declared.Write.{Write}
 use Rattle.plans.proofs.AppliedLaws.{length-applied, headerAt-applied, recordAt-applied-other, recordAt-applied-one, recordAt-applied-two, recordAt-applied-three}
 use Rattle.grafts.proofs.HangLaws.{hangWrite, Hanged}
-use Rattle.grafts.proofs.EditedLaws.{timesIn, times-most, times-positive, times-fits, holds-cut, holds-here}
+use Rattle.grafts.proofs.OpenedLaws.{link-hangWrite, timesIn, opened-once, opened-bounds}
+use Rattle.grafts.proofs.EditedLaws.{holds-cut, holds-here}
 use Rattle.grafts.proofs.PlanRemoveLaws.{isSpare-freedOf, left-freedOf, bears-nodeOf-branch, emptyPlan, cutPlan, freeing, passPlan, twinPlan}
 
 -- ---- writes, the chain and the length
@@ -31,10 +32,6 @@ use Rattle.grafts.proofs.PlanRemoveLaws.{isSpare-freedOf, left-freedOf,
 link-nowhereOf : nowhereOf .link ≡ 0
 unfolding nowhereOf
 link-nowhereOf = refl
-
-link-hangWrite : (ws : List ℕ) (c : Context ℕ) (l : ℕ) → hangWrite ws c l .link ≡ linkAt 0 c
-link-hangWrite ws top l = link-nowhereOf
-link-hangWrite ws (into a p v x o c) l = refl
 
 -- a record that is freed heads the chain
 chained-freed : (mem : Memory) (a next : ℕ) (ls : List ℕ) → mem a ≡ freedOf next → Chained mem next ls → Chained mem a (a ∷ ls)
@@ -58,14 +55,14 @@ module _ {ws : List ℕ} {m : Map} (h : Holds ws m) (k : Prefix) (valid : Valid 
       let n = length-holds h in
       record {
         header = n;
-        one = times-fits h c (node a (stringOf k) v x y) e a times-top;
+        one = opened-bounds h c (node a (stringOf k) v x y) e a times-top .1;
         two = omega arith;
         three = omega arith;
       }
 
   recordAt-empty : recordAt (applied ws (emptyPlan ws k a)) a ≡ emptyPlan ws k a .one .content
   recordAt-empty =
-      let n = times-positive h c (node a (stringOf k) v x y) e a times-top in
+      let n = opened-bounds h c (node a (stringOf k) v x y) e a times-top .0 in
       recordAt-applied-one ws (emptyPlan ws k a) fitting-empty n (omega (arith, link-nowhereOf)) (omega (arith, link-nowhereOf))
 
   pub holds-empty : Good [] (plug c (node a (stringOf k) none x y))
@@ -99,7 +96,7 @@ module _ {ws : List ℕ} {m : Map} (h : Holds ws m) (c : Context ℕ) (t : Tree 
   fits-zero b i = at (decLt 0 b)
     where
       at : Dec (0 < b) → place b + 8 ≤ length ws
-      at (yes j) = times-fits h c t e b (i j)
+      at (yes j) = opened-bounds h c t e b (i j) .1
       at (no j) = omega (arith, length-holds h)
 
   -- the records fs leave the tree, and the second and third write go to them
@@ -114,7 +111,7 @@ module _ {ws : List ℕ} {m : Map} (h : Holds ws m) (c : Context ℕ) (t : Tree 
         record {
           header = length-holds h;
           one = rw (link-hangWrite ws c l) (fits-zero (linkAt 0 c) (λ i. omega (arith, linkAt-stands c i)));
-          two = times-fits h c t e (two .link) (omega (arith, parts (two .link)));
+          two = opened-bounds h c t e (two .link) (omega (arith, parts (two .link))) .1;
           three = fits-zero (three .link) (λ i. omega (arith, third i, parts (three .link)));
         }
 
@@ -136,8 +133,8 @@ module _ {ws : List ℕ} {m : Map} (h : Holds ws m) (c : Context ℕ) (t : Tree 
     hanged : Hanged ws us c l
     hanged =
         hanged-cut ws c l spare two three fitting-cut
-        (λ b i. let n = times-positive h c t e b (omega arith) in
-        let z : times b fs ≡ 0 = omega (arith, parts b, times-most h c t e b) in
+        (λ b i. let n = opened-bounds h c t e b (omega arith) .0 in
+        let z : times b fs ≡ 0 = omega (arith, parts b, opened-once h c t e b) in
         (n, differs-two b z, differs-three b n z))
 
     holds-cutPlan : Linked (recordAt ws) l t′
@@ -158,7 +155,7 @@ module _ {ws : List ℕ} {m : Map} (h : Holds ws m) (c : Context ℕ) (t : Tree 
 
     recordAt-pass : recordAt (applied ws (passPlan ws c a l)) a ≡ freedOf (headerAt ws .spare)
     recordAt-pass =
-        let n = times-positive h c t e a (omega (arith, parts a, one-self)) in
+        let n = opened-bounds h c t e a (omega (arith, parts a, one-self)) .0 in
         recordAt-applied-two ws (passPlan ws c a l)
         (fitting-cut l a (freeing a (headerAt ws .spare)) nowhereOf (a ∷ []) t′ parts one-self third-pass) n (omega (arith, link-nowhereOf))
 
@@ -180,13 +177,13 @@ module _ {ws : List ℕ} {m : Map} (h : Holds ws m) (c : Context ℕ) (t : Tree 
 
     recordAt-twin-one : recordAt (applied ws (twinPlan ws c a b l)) a ≡ freedOf (headerAt ws .spare)
     recordAt-twin-one =
-        let n = times-positive h c t e a (omega (arith, parts a, first-twin)) in
+        let n = opened-bounds h c t e a (omega (arith, parts a, first-twin)) .0 in
         recordAt-applied-two ws (twinPlan ws c a b l) fitting-twin n
-        (λ q. let i = rw (eq-eqb a b q, eq-eqb a a refl) at (parts a) in omega (arith, times-most h c t e a))
+        (λ q. let i = rw (eq-eqb a b q, eq-eqb a a refl) at (parts a) in omega (arith, opened-once h c t e a))
 
     recordAt-twin-two : recordAt (applied ws (twinPlan ws c a b l)) b ≡ freedOf a
     recordAt-twin-two =
-        let n = times-positive h c t e b (omega (arith, parts b, second-twin)) in
+        let n = opened-bounds h c t e b (omega (arith, parts b, second-twin)) .0 in
         recordAt-applied-three ws (twinPlan ws c a b l) fitting-twin n
 
     pub holds-twin : Linked (recordAt ws) l t′ → Good [] (plug c t′) → Holds (applied ws (twinPlan ws c a b l)) (entries (plug c t′))

@@ -81,7 +81,7 @@ numberOf BadPosition = 3
 -- (the key words and the width, as a listing has them)
 abbrev pub valuesOf : Located → List ℕ
 valuesOf (At p) = p .w0 ∷ p .w1 ∷ p .w2 ∷ p .w3 ∷ p .width ∷ []
-valuesOf BadPosition = []
+valuesOf BadPosition = 0 ∷ 0 ∷ 0 ∷ 0 ∷ 0 ∷ []
 
 -- ---- what `cell` promises, for every pair of 32-bit numbers
 

@@ -6,7 +6,7 @@ use native.Mathlib.Omega.{arith}
 use mathlib.Core.Path.{_≡_, refl, sym, ap, _∙_, subst}
 use mathlib.Core.Logic.{inl, inr}
 use mathlib.Core.Bool.{Bool, true, false, not, cond}
-use mathlib.Core.List.{List, [], _∷_, _++_, map, append-assoc, append-nil, List·Memᴰ, List·Memᴰ·head, List·Memᴰ·tail}
+use mathlib.Core.List.{List, [], _∷_, _++_, map, map-append, append-assoc, append-nil, List·Memᴰ, List·Memᴰ·head, List·Memᴰ·tail}
 use mathlib.Core.List.{List·Memᴰ·append-cases, List·Memᴰ·not-nil}
 use mathlib.Core.Option.{Option, none, some, Option·map}
 use lib.Dec.{T}
@@ -164,10 +164,6 @@ filled-trieAt f v (suc n) p =
     (filled-trieAt f v n (p ++ (false ∷ []))) (filled-trieAt f v n (p ++ (true ∷ [])))
 
 -- ---- refs
-
-map-append : {A B : Type 0} (g : A → B) (xs ys : List A) → map g (xs ++ ys) ≡ map g xs ++ map g ys
-map-append g [] ys = refl
-map-append g (x ∷ xs) ys = ap (λ l. g x ∷ l) (map-append g xs ys)
 
 -- the numbers below a fork, counted from its side
 plus-left : (n : ℕ) (o : Option ℕ) → Option·map (λ i. n + i) (Option·map suc o) ≡ Option·map (λ i. suc n + i) o

@@ -17,9 +17,11 @@ use Rattle.bits.proofs.BitsLaws.{isPrefix-length}
 use Rattle.zones.specs.Tree.{Tree, tip, node, full, Good}
 use Rattle.records.specs.Layout.{roomOf, recordAt}
 use Rattle.records.specs.Holds.{Memory, labels, Linked}
+use Rattle.records.proofs.LayoutLaws.{roomOf-zero}
 use Rattle.lookup.proofs.StepsLaws.{width-bears, narrow-bears}
 use Rattle.listing.specs.Touring.{Stack, pushOn}
 use Rattle.listing.proofs.Items.{items, allItems, height, Sound, Stacked}
+use Rattle.listing.proofs.PendingLaws.{stacked-set}
 
 -- ---- height: a good tree of valid keys is no higher than the bits that its stem leaves
 
@@ -53,21 +55,7 @@ module _ {ws : List ℕ} {c a : ℕ} {z : Bits} {v : Option ℕ} {l r : Tree ℕ
   pub leads-right : Leads ws (recordAt ws a .right) r
   leads-right = record { linked = e .linked .3; sound = λ d i. e .sound d (List·Memᴰ·tail (Memᴰ·append-right (labels l) i)) }
 
-pub roomOf-zero : (n a : ℕ) → roomOf n a ≡ true → a ≡ 0 → ⊥
-unfolding roomOf
-roomOf-zero n a h e =
-    let q : false ≡ true = rw e at h in
-    let z : _≡_ {A = ℕ} 0 1 = cc in
-    omega arith
-
 module _ (ws : List ℕ) where
-  -- a link set above the stack leaves it
-  stacked-set : (ls : List ℕ) (o a d : ℕ) (ts : List (Tree ℕ)) → d ≤ o → Stacked ws ls d ts → Stacked ws (set ls o a) d ts
-  stacked-set ls o a d [] h s = s
-  stacked-set ls o a d (t ∷ ts) h s =
-      let e : getD (set ls o a) (d - 1) 0 ≡ getD ls (d - 1) 0 = getD-set-other ls o (d - 1) a 0 (λ i. omega (arith, s .0)) in
-      (s .0, s .1, rw e (s .2), s .3, s .4, stacked-set ls o a (d - 1) ts (omega arith) (s .5))
-
   -- s is a stack of t and then of the trees ts, of which o links are open
   pub record Pushed (o : ℕ) (t : Tree ℕ) (ts : List (Tree ℕ)) (s : Stack) : Type 0 where
     pub trees : List (Tree ℕ)
@@ -83,7 +71,7 @@ module _ (ws : List ℕ) where
         let i : o + 1 - 1 ≡ o = omega arith in
         let same : getD (set ls o a) o 0 ≡ a = getD-set-same ls o a 0 (omega arith) in
         let top : Linked (recordAt ws) (getD (set ls o a) (o + 1 - 1) 0) t = rw (i, same) (e .linked) in
-        let stack : Stacked ws (set ls o a) (o + 1 - 1) ts = rw i (stacked-set ls o a o ts (omega arith) st) in
+        let stack : Stacked ws (set ls o a) (o + 1 - 1) ts = rw i (stacked-set ws ls o a o ts (omega arith) st) in
         rw (ne-eqb a 0 z, lt-leb 129 o (omega arith))
         (record {
           trees = t ∷ ts;

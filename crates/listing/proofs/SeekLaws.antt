@@ -26,6 +26,7 @@ use Rattle.zones.specs.Tree.{Tree, tip, node, Good, onward, walk}
 use Rattle.zones.specs.Slices.{after, found}
 use Rattle.records.specs.Layout.{recordAt, headerAt}
 use Rattle.records.specs.Holds.{Holds}
+use Rattle.records.proofs.LayoutLaws.{roomOf-zero}
 use Rattle.records.proofs.HoldsLaws.{labels-room}
 use Rattle.lookup.proofs.HoldsLaws.{path-holds}
 use Rattle.listing.specs.Touring.{Stack, pushOn, soughtOn, Seeking, afterOn, seekOn, seekFrom, startOn}
@@ -35,7 +36,7 @@ use Rattle.listing.specs.declared.Resume.the-variants.{Start, After}
 use Rattle.listing.specs.declared.Seek.the-variants as seek
 use Rattle.listing.specs.declared.Sought.the-variants as sought
 use Rattle.listing.proofs.Items.{Item, items, allItems, height, Stacked, Pending}
-use Rattle.listing.proofs.PushLaws.{height-linked, Leads, leads-tip, leads-left, leads-right, roomOf-zero, Pushed, pushOn-leads}
+use Rattle.listing.proofs.PushLaws.{height-linked, Leads, leads-tip, leads-left, leads-right, Pushed, pushOn-leads}
 use Rattle.listing.proofs.SoughtLaws.{rest, rest-equal, rest-left, rest-right, rest-above, rest-apart-all, rest-apart-none}
 use Rattle.listing.proofs.SoughtLaws.{Met, soughtOn-above, soughtOn-apart, soughtOn-equal, soughtOn-below}
 

@@ -20,6 +20,7 @@ use Rattle.zones.specs.Maps.{Map, keys}
 use Rattle.zones.specs.Slices.{after, left, given, remains, passed}
 use Rattle.zones.specs.Tree.{Tree, tip, node, Good, own, entries, strings}
 use Rattle.zones.proofs.MapsLaws.{keys-keep}
+use Rattle.zones.proofs.CountLaws.{after-prefix}
 use Rattle.zones.proofs.TreeLaws.{keys-append, begin-strings, rising-strings, mem-strings, nodes-entries}
 use Rattle.listing.proofs.Items.{Item, items, storedIn, counts, upTo, past}
 
@@ -114,10 +115,6 @@ closed-items p (node a s v l r) g =
           (mem-any (isPrefix s) (keys (entries (node a s v l r))) (n .one) (n .one-in) j),
       closed-append (items l) (items r) (closed-items (s ++ (false ∷ [])) l (g .2)) (closed-items (s ++ (true ∷ [])) r (g .3)),
     )
-
-after-prefix : (r : Option Bits) (p a : Bits) → T (after r p) → T (isPrefix p a) → T (after r a)
-after-prefix none p a h k = tt
-after-prefix (some z) p a h k = before-prefix z p a h k
 
 -- the items of is that come after the resume r
 abbrev pub ahead : Option Bits → List Item → List Item

@@ -18,7 +18,6 @@ use Rattle.prefix.proofs.KeysLaws.{length-stringOf}
 use Rattle.records.specs.Layout.{roomOf, Inside, recordAt, headerAt, keyOf}
 use Rattle.records.specs.declared.Record.{Record}
 use Rattle.records.specs.declared.Header.{Header}
-use Rattle.records.proofs.LayoutLaws.{inside-roomOf}
 use Rattle.listing.specs.Touring.{Stack, pushOn, popOn, partedOf, passedOf, soughtOf, soughtOn, Seeking, afterOn, seekOn, seekFrom, startOn}
 use Rattle.listing.specs.declared.Resume.{Resume}
 use Rattle.listing.specs.declared.Resume.the-variants.{Start, After}
@@ -161,9 +160,6 @@ module _ (r : Record) (k : Prefix) (l low : ℕ) (p : Prefix) (b : ℕ) (h : Sha
   soughtOf-passed x g f q = simp (sharedOf-shared r k p b h e, le-ltb _ _ w, le-ltb _ _ g, le-ltb _ _ f, q)
 
 -- ---- soughtOn
-
-pub inside-tested : (ws : List ℕ) (l : ℕ) (x : Bool) → x ≡ roomOf (length ws) l → not x ≡ false → Inside ws l
-inside-tested ws l x e t = inside-roomOf ws l (sym e ∙ not-false x t)
 
 module _ (ws : List ℕ) (k : Prefix) (l low : ℕ) where
   pub soughtOn-outside : (x : Bool) → x ≡ roomOf (length ws) l → not x ≡ true → sought.Bad ≡ soughtOn ws k l low

@@ -21,6 +21,7 @@ use Rattle.prefix.proofs.KeysLaws.{length-stringOf}
 use Rattle.records.specs.Layout.{roomOf, recordAt, keyOf}
 use Rattle.records.specs.Holds.{Bears}
 use Rattle.records.specs.declared.Record.{Record}
+use Rattle.records.proofs.LayoutLaws.{roomOf-zero}
 use Rattle.lookup.specs.Walking.{sharedOn, sideOn, downOn, seenOn, stepOn}
 use Rattle.lookup.specs.declared.Walk.{Walk}
 use Rattle.lookup.specs.declared.Step.the-variants.{Down, Last, End}
@@ -75,13 +76,6 @@ module _ (r : Record) (z : Bits) (v : Option ℕ) (b : Bears r z v) where
           rw (width-bears, lt-ltb (length z) (k .width) l, getD-next z (stringOf k) x y)
 
 -- ---- stepOn, one law for each way out
-
-roomOf-zero : (n a : ℕ) → roomOf n a ≡ true → a ≡ 0 → ⊥
-unfolding roomOf
-roomOf-zero n a h e =
-    let q : false ≡ true = rw e at h in
-    let z : _≡_ {A = ℕ} 0 1 = cc in
-    omega arith
 
 module _ (ws : List ℕ) (k : Prefix) (s : Walk) where
   pub stepOn-end : s .next ≡ 0 → stepOn ws k s ≡ End

@@ -92,18 +92,6 @@ module _ (r : Record) (k : Prefix) (s : Walk) (p : Prefix) (b : ℕ) (h : Shared
   unfolding seenOn
   seenOn-down d l g q = simp (sharedOn-shared r k p b e h, le-ltb _ _ w, le-ltb _ _ l, le-ltb _ _ g, q)
 
--- ---- roomOf
-
-and-right : (a b : Bool) → (a && b) ≡ true → b ≡ true
-and-right true b h = h
-and-right false b h = cc
-
-pub roomOf-inside : (ws : List ℕ) (l : ℕ) (b : Bool) → b ≡ roomOf (length ws) l → not b ≡ false → Inside ws l
-unfolding roomOf
-roomOf-inside ws l b e t =
-    let h = ltb-true l (length ws / 8) (and-right (ltb 0 l) (ltb l (length ws / 8)) (sym e ∙ not-false b t)) in
-    record { fits = omega arith }
-
 -- ---- stepOn
 
 module _ (ws : List ℕ) (k : Prefix) (s : Walk) where

@@ -85,7 +85,7 @@ module _ (s k : Prefix) (n : ℕ) (hs : s .width ≤ 128) (hk : k .width ≤ 128
 
 -- ---- isValid
 
-both-true : (a b : Bool) → (a && b) ≡ true → (a ≡ true) × (b ≡ true)
+pub both-true : (a b : Bool) → (a && b) ≡ true → (a ≡ true) × (b ≡ true)
 both-true true b h = (refl, h)
 both-true false b h = (h, cc)
 

@@ -6,14 +6,15 @@ use native.Mathlib.Nat.{add-zero, zero-add, not-suc-le-zero}
 use native.Mathlib.Numerals.{towards-suc}
 use native.Mathlib.Decide.{decLt}
 use native.Mathlib.Omega.{arith}
-use mathlib.Core.Path.{_≡_, refl, ap, _∙_}
+use mathlib.Core.Path.{_≡_, refl, sym, ap, _∙_}
 use mathlib.Core.Logic.{_⊎_, inl, inr}
-use mathlib.Core.Bool.{Bool, true, false, _&&_}
+use mathlib.Core.Bool.{Bool, true, false, _&&_, not}
 use mathlib.Core.List.{List, [], _∷_}
 use lib.Dec.{leb, ltb, eqb}
 use lib.ListN.{length, getD, set, length-set}
 use lib.Seq.{sets, getD-set-same, getD-set-other}
-use borrow.Author.Tests.{leb-true, ltb-true, eqb-true, le-leb, lt-ltb, eq-eqb}
+use borrow.Author.Tests.{leb-true, ltb-true, eqb-true, le-leb, lt-ltb, eq-eqb, not-false}
+use Rattle.prefix.proofs.KeysLaws.{both-true}
 use Rattle.records.specs.Layout.{tableLength, isTable, capacity, place, roomOf, Inside, recordAt, headerAt, withRecord, withHeader}
 use Rattle.records.specs.declared.Record.{Record}
 use Rattle.records.specs.declared.Header.{Header}
@@ -24,10 +25,6 @@ pub record Table (n : ℕ) : Type 0 where
   pub least : 16 ≤ n
   pub most : n ≤ 524288
   pub whole : n % 8 ≡ 0
-
-both-true : (a b : Bool) → (a && b) ≡ true → (a ≡ true) × (b ≡ true)
-both-true true b h = (refl, h)
-both-true false b h = (h, cc)
 
 pub isTable-true : (n : ℕ) → isTable n ≡ true → Table n
 unfolding isTable
@@ -66,10 +63,17 @@ room-roomOf n l h f = let below : l < n / 8 = omega arith in simp (lt-ltb 0 l h,
 pub roomOf-tableLength : (c l : ℕ) → 0 < l → l ≤ c → roomOf (tableLength c) l ≡ true
 roomOf-tableLength c l h f = room-roomOf (tableLength c) l h (omega arith)
 
+pub roomOf-zero : (n l : ℕ) → roomOf n l ≡ true → l ≡ 0 → ⊥
+roomOf-zero n l h e = let i = roomOf-true n l h .0 in omega arith
+
 -- ---- Inside
 
 pub inside-roomOf : (ws : List ℕ) (l : ℕ) → roomOf (length ws) l ≡ true → Inside ws l
 inside-roomOf ws l h = record { fits = roomOf-true (length ws) l h .1 }
+
+-- as the code tests it, which goes on where the answer is not false
+pub inside-tested : (ws : List ℕ) (l : ℕ) (b : Bool) → b ≡ roomOf (length ws) l → not b ≡ false → Inside ws l
+inside-tested ws l b e t = inside-roomOf ws l (sym e ∙ not-false b t)
 
 pub roomOf-inside : (ws : List ℕ) (l : ℕ) → 0 < l → Inside ws l → roomOf (length ws) l ≡ true
 roomOf-inside ws l h i = room-roomOf (length ws) l h (i .fits)

@@ -26,7 +26,7 @@ use Rattle.zones.proofs.SlicesLaws.{givenKeys-before, restKeys-none, ne
 
 -- ---- after
 
-after-prefix : (r : Option Bits) (p a : Bits) → T (after r p) → T (isPrefix p a) → T (after r a)
+pub after-prefix : (r : Option Bits) (p a : Bits) → T (after r p) → T (isPrefix p a) → T (after r a)
 after-prefix none p a h k = tt
 after-prefix (some z) p a h k = before-prefix z p a h k
 

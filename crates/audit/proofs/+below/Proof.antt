@@ -7,11 +7,12 @@ use native.Mathlib.Omega.{arith}
 use borrow.Author.Needs.{needs}
 use borrow.Fn.Kinds.{In}
 use borrow.Fn.PlainCycle.{Measures, is, falls, and}
+use Rattle.records.proofs.LayoutLaws.{inside-tested}
 use Rattle.records.proofs.has_room.Reads as has-room
 use Rattle.records.proofs.key_of.Reads as key-of
 use Rattle.records.proofs.read_record.Reads as read-record
 use Rattle.audit.specs.Checking.{lowOf}
-use Rattle.audit.proofs.CheckingLaws.{Node, node-seen, node-fair, inside-room}
+use Rattle.audit.proofs.CheckingLaws.{Node, node-seen, node-fair}
 use Rattle.audit.proofs.CheckingLaws.{belowOn-end, belowOn-many, belowOn-outside, belowOn-other, belowOn-bad, belowOn-right}
 use Rattle.audit.proofs.is_node.Reads as is-node
 use Rattle.audit.proofs.below.Reads as reads
@@ -56,7 +57,7 @@ module _ (t : ℕ) where
   returns-3 c = belowOn-outside _ _ _ _ (search needs) (search needs) _ (c .before .has-room .ensures) (search needs)
 
   read-record-requires : lts.Need-read-record-requires (claims t) (asked t) reads.Post
-  read-record-requires c κs = inside-room _ _ _ (c .before .has-room .ensures) (search needs)
+  read-record-requires c κs = inside-tested _ _ _ (c .before .has-room .ensures) (search needs)
 
   returns-4 : lts.Need-returns-4 (claims t) (asked t) reads.Post
   returns-4 c =

@@ -3,8 +3,9 @@
 -- Assumes nothing.
 use mathlib.Core.Path.{_≡_, refl}
 use borrow.Author.Needs.{needs}
+use Rattle.records.proofs.LayoutLaws.{inside-tested}
 use Rattle.audit.specs.Checking.{chainOn}
-use Rattle.audit.proofs.CheckingLaws.{chainOn-many, chainOn-outside, chainOn-other, chainOn-next, chainOn-end, inside-room}
+use Rattle.audit.proofs.CheckingLaws.{chainOn-many, chainOn-outside, chainOn-other, chainOn-next, chainOn-end}
 use Rattle.audit.proofs.chain.Statement.{statement}
 use Rattle.audit.proofs.chain.Tie as tie
 
@@ -23,7 +24,7 @@ returns-2 c =
     chainOn-outside _ _ _ _ (at-room .before .before .before .loop .inv) (search needs) (search needs) _ (at-room .has-room .ensures) (search needs)
 
 read-record-requires : tie.Need-read-record-requires Inv-loop μ-loop
-read-record-requires c κs = inside-room _ _ _ (c .before .has-room .ensures) (search needs)
+read-record-requires c κs = inside-tested _ _ _ (c .before .has-room .ensures) (search needs)
 
 returns-3 : tie.Need-returns-3 Inv-loop μ-loop
 returns-3 c =

@@ -1,7 +1,8 @@
 -- `listing::sought_at` meets its contract: the link is outside the words, or its record is read.
 -- Assumes nothing.
 use borrow.Author.Needs.{needs}
-use Rattle.listing.proofs.TouringLaws.{inside-tested, soughtOn-outside, soughtOn-inside}
+use Rattle.records.proofs.LayoutLaws.{inside-tested}
+use Rattle.listing.proofs.TouringLaws.{soughtOn-outside, soughtOn-inside}
 use Rattle.listing.proofs.sought_at.Statement.{statement}
 use Rattle.listing.proofs.sought_at.Tie as tie
 

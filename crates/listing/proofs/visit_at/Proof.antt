@@ -2,7 +2,7 @@
 -- node's where its tag is small.
 -- Assumes nothing.
 use borrow.Author.Needs.{needs}
-use Rattle.listing.proofs.TouringLaws.{inside-tested}
+use Rattle.records.proofs.LayoutLaws.{inside-tested}
 use Rattle.listing.proofs.TourOnLaws.{visitOn-outside, visitOn-wide, visitOn-node}
 use Rattle.listing.proofs.visit_at.Statement.{statement}
 use Rattle.listing.proofs.visit_at.Tie as tie

@@ -1,7 +1,8 @@
 -- `lookup::step_at` meets its contract: the next link is none, or outside the words, or its record is read.
 -- Assumes nothing.
 use borrow.Author.Needs.{needs}
-use Rattle.lookup.proofs.WalkingLaws.{stepOn-end, stepOn-outside, stepOn-inside, roomOf-inside}
+use Rattle.records.proofs.LayoutLaws.{inside-tested}
+use Rattle.lookup.proofs.WalkingLaws.{stepOn-end, stepOn-outside, stepOn-inside}
 use Rattle.lookup.proofs.step_at.Statement.{statement}
 use Rattle.lookup.proofs.step_at.Tie as tie
 
@@ -12,7 +13,7 @@ returns-2 : tie.Need-returns-2
 returns-2 c = stepOn-outside _ _ _ _ (c .before .has-room .ensures) (search needs) (search needs)
 
 read-record-requires : tie.Need-read-record-requires
-read-record-requires c κs = roomOf-inside _ _ _ (c .before .has-room .ensures) (search needs)
+read-record-requires c κs = inside-tested _ _ _ (c .before .has-room .ensures) (search needs)
 
 returns-3 : tie.Need-returns-3
 returns-3 c =

@@ -1,7 +1,7 @@
 -- `plans::look_at` meets its contract: the link is none, or outside the words, or its record is read.
 -- Assumes nothing.
 use borrow.Author.Needs.{needs}
-use Rattle.lookup.proofs.WalkingLaws.{roomOf-inside}
+use Rattle.records.proofs.LayoutLaws.{inside-tested}
 use Rattle.plans.proofs.PlanningLaws.{lookOn-nothing, lookOn-outside, lookOn-inside}
 use Rattle.plans.proofs.look_at.Statement.{statement}
 use Rattle.plans.proofs.look_at.Tie as tie
@@ -13,7 +13,7 @@ returns-2 : tie.Need-returns-2
 returns-2 c = lookOn-outside _ _ _ (c .before .has-room .ensures) (search needs) (search needs)
 
 read-record-requires : tie.Need-read-record-requires
-read-record-requires c κs = roomOf-inside _ _ _ (c .before .has-room .ensures) (search needs)
+read-record-requires c κs = inside-tested _ _ _ (c .before .has-room .ensures) (search needs)
 
 returns-3 : tie.Need-returns-3
 returns-3 c = lookOn-inside _ _ _ _ (c .before .before .has-room .ensures) (search needs) (search needs) (search needs)
