@@ -16,7 +16,7 @@ use Rattle.bits.proofs.BitsLaws.{isPrefix-length, length-lcp, isPrefix-lcp}
 use Rattle.prefix.specs.Keys.{stringOf, isValid, Valid, Validity}
 use Rattle.prefix.specs.declared.Prefix.{Prefix}
 use Rattle.prefix.proofs.KeysLaws.{length-stringOf, both-true, isValid-true}
-use Rattle.records.specs.Layout.{isTable, capacity, roomOf, Inside, recordAt, headerAt, keyOf, isSpare}
+use Rattle.records.specs.Layout.{isTable, capacity, roomOf, recordAt, headerAt, keyOf, isSpare}
 use Rattle.records.specs.declared.Record.{Record}
 use Rattle.records.specs.declared.Header.{Header}
 use Rattle.records.proofs.LayoutLaws.{Table, isTable-true}

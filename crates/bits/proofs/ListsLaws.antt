@@ -7,7 +7,7 @@ use mathlib.Core.Logic.{_⊎_, inl, inr}
 use mathlib.Core.Bool.{Bool, true, false, not, _&&_, _||_, cond}
 use mathlib.Core.List.{List, [], _∷_, _++_, map, List·Memᴰ, List·Memᴰ·head, List·Memᴰ·tail}
 use lib.Dec.{T}
-use lib.ListN.{length, length-append}
+use lib.ListN.{length}
 use Rattle.bits.specs.Lists.{keep, any, all, each, lastOr}
 
 -- ---- tests

@@ -11,12 +11,12 @@ use lib.ListN.{length}
 use Rattle.bits.specs.Bits.{Bits}
 use Rattle.zones.specs.Maps.{Map}
 use Rattle.zones.specs.Tree.{Tree, node, Good, entries}
-use Rattle.zones.specs.Focus.{Context, top, into, plug, linkAt}
-use Rattle.records.specs.Layout.{place, recordAt, headerAt}
+use Rattle.zones.specs.Focus.{Context, plug, linkAt}
+use Rattle.records.specs.Layout.{recordAt, headerAt}
 use Rattle.records.specs.Holds.{labels, Bears, Linked, Chained, times, Holds}
-use Rattle.records.proofs.OnceLaws.{times-append, mem-times, times-mem, once-bounds, once-most}
+use Rattle.records.proofs.OnceLaws.{times-append, mem-times}
 use Rattle.records.proofs.HoldsLaws.{linked-ext, chained-ext}
-use Rattle.records.proofs.GraftLaws.{labelsAbove, times-plug, Opened, linked-plug, framed-ext, holds-edit}
+use Rattle.records.proofs.GraftLaws.{labelsAbove, times-plug, Opened, framed-ext, holds-edit}
 use Rattle.grafts.proofs.HangLaws.{rootWith, Hanged, framed-hang}
 use Rattle.grafts.proofs.OpenedLaws.{aside-linkAt, opened-at, opened-once, opened-bounds}
 

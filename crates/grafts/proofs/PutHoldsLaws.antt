@@ -3,7 +3,7 @@
 -- as nodes. No contract cites this file.
 --   Spot                where the search for a key ends in the tree of a table
 -- Assumes nothing.
-use Prim.Native.Nat.{ℕ, _+_, _*_, _/_, _%_, _≤_, _<_}
+use Prim.Native.Nat.{ℕ, _+_, _*_, _%_, _≤_, _<_}
 use native.Mathlib.Omega.{arith}
 use mathlib.Core.Path.{_≡_, sym, ap, _∙_, subst}
 use mathlib.Core.Bool.{true, false}
@@ -19,7 +19,7 @@ use Rattle.zones.specs.Nodes.{nodes, overflows}
 use Rattle.zones.specs.Tree.{Tree, Good, entries, strings, putTree}
 use Rattle.zones.specs.Focus.{Context, plug}
 use Rattle.zones.proofs.PutLaws.{good-putTree, entries-putTree, nodes-put}
-use Rattle.records.specs.Layout.{capacity, recordAt, headerAt, keyOf, zoneOf}
+use Rattle.records.specs.Layout.{capacity, recordAt, headerAt, zoneOf}
 use Rattle.records.specs.Holds.{labels, Bears, Linked, Chained, times, Holds}
 use Rattle.records.proofs.LayoutLaws.{capacity-tableLength}
 use Rattle.records.proofs.OnceLaws.{times-append, length-once}

@@ -2,7 +2,7 @@
 -- words once it is written hold the map without the key. No contract cites this file.
 --   Goes              a remove is planned from where the walk s ended, and gives the map without the key
 -- Assumes nothing.
-use Prim.Native.Nat.{ℕ, _+_, _≤_, _<_}
+use Prim.Native.Nat.{ℕ, _≤_, _<_}
 use native.Mathlib.Omega.{arith}
 use mathlib.Core.Path.{_≡_, refl, sym, ap, _∙_}
 use mathlib.Core.Bool.{Bool, true, not, _||_}

@@ -22,7 +22,7 @@ use Rattle.records.proofs.GraftLaws.{labelsAbove}
 use Rattle.plans.specs.Planning.{nodeOf, freedOf, nowhereOf, applied, Fitting}
 use Rattle.plans.specs.declared.Write.{Write}
 use Rattle.plans.proofs.AppliedLaws.{length-applied, headerAt-applied, recordAt-applied-other, recordAt-applied-one, recordAt-applied-two, recordAt-applied-three}
-use Rattle.grafts.proofs.HangLaws.{hangWrite, Hanged}
+use Rattle.grafts.proofs.HangLaws.{Hanged}
 use Rattle.grafts.proofs.OpenedLaws.{link-hangWrite, timesIn, opened-once, opened-bounds}
 use Rattle.grafts.proofs.EditedLaws.{holds-cut, holds-here}
 use Rattle.grafts.proofs.PlanRemoveLaws.{isSpare-freedOf, left-freedOf, bears-nodeOf-branch, emptyPlan, cutPlan, freeing, passPlan, twinPlan}

@@ -3,8 +3,7 @@
 -- node once. No contract cites this file.
 -- Assumes nothing.
 use Prim.Native.Nat.{ℕ, _+_}
-use native.Mathlib.Omega.{arith}
-use mathlib.Core.Path.{_≡_, refl, sym, ap, _∙_}
+use mathlib.Core.Path.{_≡_, refl, ap, _∙_}
 use mathlib.Core.List.{List, [], _∷_}
 use mathlib.Core.Option.{Option, none}
 use lib.Dec.{T}
@@ -12,7 +11,7 @@ use lib.ListN.{length, getD}
 use Rattle.bits.specs.Bits.{Bits}
 use Rattle.zones.specs.Maps.{Map, keys}
 use Rattle.zones.specs.Nodes.{nodes}
-use Rattle.zones.specs.Slices.{count, Turn, turns, next, counted, pathed, ended}
+use Rattle.zones.specs.Slices.{count, turns, next, counted, pathed, ended}
 use Rattle.zones.proofs.CountLaws.{counted-whole}
 use Rattle.records.specs.Holds.{Holds}
 use Rattle.records.proofs.HoldsLaws.{ascending-holds}
@@ -22,7 +21,7 @@ use Rattle.audit.specs.declared.Audited.the-variants.{Yes}
 use Rattle.audit.proofs.HoldsLaws.{auditOn-yes, auditOn-holds}
 use Rattle.edits.proofs.StoreHoldsLaws.{storeOn-holds}
 use Rattle.edits.proofs.RemoveHoldsLaws.{removeOn-holds}
-use Rattle.listing.specs.Slicing.{sliceOn, resumeOf, valuesOf}
+use Rattle.listing.specs.Slicing.{valuesOf}
 use Rattle.listing.specs.declared.Sliced.{Sliced}
 use Rattle.listing.proofs.HoldsLaws.{sliceOn-holds, sliceOn-written}
 use Rattle.history.specs.Reached.{Reached}

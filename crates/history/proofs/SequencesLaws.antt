@@ -10,15 +10,12 @@ use lib.ListN.{length}
 use Rattle.bits.specs.Lists.{all}
 use Rattle.bits.proofs.ListsLaws.{T-true, and-left, and-right}
 use Rattle.prefix.specs.Keys.{isValid, Valid}
-use Rattle.prefix.specs.declared.Prefix.{Prefix}
 use Rattle.prefix.proofs.KeysLaws.{isValid-true}
 use Rattle.zones.specs.Maps.{Map}
 use Rattle.records.specs.Layout.{isTable, capacity}
 use Rattle.records.specs.Holds.{Holds}
 use Rattle.lookup.proofs.HoldsLaws.{fetchOn-holds, longestOn-holds}
 use Rattle.edits.specs.Fresh.{freshOn}
-use Rattle.edits.specs.Storing.{storeOn}
-use Rattle.edits.specs.Removing.{removeOn}
 use Rattle.edits.proofs.ThreeLaws.{storeOn-three, removeOn-three}
 use Rattle.edits.proofs.FreshTableLaws.{length-freshOn, freshOn-holds}
 use Rattle.edits.proofs.StoreHoldsLaws.{storeOn-holds}

@@ -17,7 +17,7 @@ use Rattle.prefix.specs.Keys.{stringOf, Valid}
 use Rattle.prefix.specs.declared.Prefix.{Prefix}
 use Rattle.zones.specs.Maps.{Map, keys, get, put, without, longestMatch}
 use Rattle.zones.specs.Nodes.{path, trail, overflows}
-use Rattle.zones.specs.Slices.{given, remains, count, Turn, next}
+use Rattle.zones.specs.Slices.{given, remains, count, next}
 use Rattle.records.specs.Layout.{capacity}
 use Rattle.records.specs.Holds.{Holds}
 use Rattle.lookup.specs.Fetching as fetching

@@ -18,7 +18,6 @@ use Rattle.prefix.specs.declared.Prefix.{Prefix}
 use Rattle.zones.specs.Maps.{Entry, Map, keys, put, without}
 use Rattle.zones.specs.Nodes.{path, trail}
 use Rattle.records.specs.Layout.{isTable}
-use Rattle.lookup.specs.Walking.{Outcome}
 use Rattle.lookup.specs.Fetching as fetching
 use Rattle.lookup.specs.Fetching.{fetchOn}
 use Rattle.lookup.specs.Matching as matching

@@ -8,7 +8,7 @@ use mathlib.Core.Path.{_≡_, refl}
 use mathlib.Core.Bool.{false}
 use mathlib.Core.List.{List, [], _∷_}
 use lib.ListN.{length}
-use Rattle.zones.specs.Maps.{Entry, Map, keys, longestMatch}
+use Rattle.zones.specs.Maps.{keys, longestMatch}
 use Rattle.image.specs.Bytes.{short, text, uint16, uint32, uint64}
 use Rattle.image.specs.Image.{size24, imageNodes, side, forksIn, forksOf, dataOf, treeBytes, metadata, marker, imageOf, image}
 

@@ -15,7 +15,6 @@ use Rattle.prefix.proofs.KeysLaws.{isValid-true}
 use Rattle.zones.specs.Maps.{Map, keys}
 use Rattle.zones.specs.Nodes.{nodes}
 use Rattle.zones.specs.Slices.{after, given, remains, found, count}
-use Rattle.zones.specs.Tree.{Tree}
 use Rattle.zones.proofs.TreeLaws.{nodes-entries}
 use Rattle.records.specs.Layout.{isTable}
 use Rattle.records.specs.Holds.{Holds}
@@ -27,8 +26,8 @@ use Rattle.listing.specs.declared.Resume.the-variants.{Start, After}
 use Rattle.listing.specs.declared.Refused.the-variants as refused
 use Rattle.listing.specs.declared.Toured.the-variants as toured
 use Rattle.listing.specs.declared.Sliced.the-variants.{Given}
-use Rattle.listing.proofs.TourLaws.{Tours, tourFrom-out, tourFrom-pending}
-use Rattle.listing.proofs.Items.{Item, items, allItems, storedIn, upTo, past, Pending}
+use Rattle.listing.proofs.TourLaws.{tourFrom-out, tourFrom-pending}
+use Rattle.listing.proofs.Items.{Item, items, allItems, storedIn, upTo, past}
 use Rattle.listing.proofs.SliceItemsLaws.{keys-items, given-items, remains-items, passed-items}
 use Rattle.listing.proofs.SeekLaws.{Resumes, Sought, startOn-holds}
 

@@ -10,12 +10,12 @@ use mathlib.Core.List.{Memᴰ·append-left, Memᴰ·append-right}
 use mathlib.Core.Option.{Option}
 use lib.Dec.{T}
 use lib.ListN.{length, getD, set, length-append, length-set}
-use lib.Seq.{getD-set-same, getD-set-other}
+use lib.Seq.{getD-set-same}
 use borrow.Author.Tests.{lt-leb, eq-eqb, ne-eqb}
 use Rattle.bits.specs.Bits.{Bits}
 use Rattle.bits.proofs.BitsLaws.{isPrefix-length}
 use Rattle.zones.specs.Tree.{Tree, tip, node, full, Good}
-use Rattle.records.specs.Layout.{roomOf, recordAt}
+use Rattle.records.specs.Layout.{recordAt}
 use Rattle.records.specs.Holds.{Memory, labels, Linked}
 use Rattle.records.proofs.LayoutLaws.{roomOf-zero}
 use Rattle.lookup.proofs.StepsLaws.{width-bears, narrow-bears}

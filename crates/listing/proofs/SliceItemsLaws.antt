@@ -14,7 +14,7 @@ use lib.Seq.{drop-nil, take-nil}
 use Rattle.bits.specs.Lists.{keep, any, last, lastOr, isEmpty}
 use Rattle.bits.specs.Bits.{Bits, isPrefix, before, rising}
 use Rattle.bits.proofs.ListsLaws.{any-append, any-mem, mem-any, or-left, mem-map, mem-keep, keep-append, keep-every, keep-none, mem-lastOr}
-use Rattle.bits.proofs.BitsLaws.{before-prefix, lcp-left}
+use Rattle.bits.proofs.BitsLaws.{lcp-left}
 use Rattle.bits.proofs.RisingLaws.{rising-keep, rising-left, rising-parts, not-after-lastOr}
 use Rattle.zones.specs.Maps.{Map, keys}
 use Rattle.zones.specs.Slices.{after, left, given, remains, passed}

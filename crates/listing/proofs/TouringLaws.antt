@@ -15,7 +15,7 @@ use Rattle.bits.proofs.BitsLaws.{length-lcp}
 use Rattle.prefix.specs.Keys.{stringOf, Shared}
 use Rattle.prefix.specs.declared.Prefix.{Prefix}
 use Rattle.prefix.proofs.KeysLaws.{length-stringOf}
-use Rattle.records.specs.Layout.{roomOf, Inside, recordAt, headerAt, keyOf}
+use Rattle.records.specs.Layout.{roomOf, recordAt, headerAt, keyOf}
 use Rattle.records.specs.declared.Record.{Record}
 use Rattle.records.specs.declared.Header.{Header}
 use Rattle.listing.specs.Touring.{Stack, pushOn, popOn, partedOf, passedOf, soughtOf, soughtOn, Seeking, afterOn, seekOn, seekFrom, startOn}

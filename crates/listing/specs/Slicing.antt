@@ -9,7 +9,7 @@
 -- Assumes nothing.
 use Prim.Native.Nat.{ℕ, suc, _+_, _*_, _^_, _≤_, _<_}
 use mathlib.Core.Path.{_≡_}
-use mathlib.Core.Bool.{Bool, true, false, cond, _||_}
+use mathlib.Core.Bool.{Bool, true, false, cond}
 use mathlib.Core.List.{List, [], _∷_, _++_}
 use mathlib.Core.Option.{Option, none, some}
 use lib.Dec.{ltb, eqb}
@@ -18,7 +18,6 @@ use Rattle.bits.specs.Lists.{each}
 use Rattle.bits.specs.Bits.{Bits}
 use Rattle.bits.specs.Numbers.{value}
 use Rattle.prefix.specs.Keys.{stringOf, isValid}
-use Rattle.prefix.specs.declared.Prefix.{Prefix}
 use Rattle.zones.specs.Maps.{Entry, Map}
 use Rattle.zones.specs.Slices.{given, remains, count}
 use Rattle.records.specs.Layout.{isTable}

@@ -26,7 +26,6 @@ use Rattle.zones.specs.Tree.{Tree, tip, node, onward, walk, find, better, best}
 use Rattle.zones.proofs.PathLaws.{length-path}
 use Rattle.zones.proofs.WalkLaws.{path-entries}
 use Rattle.zones.proofs.FindLaws.{get-entries, longestMatch-entries}
-use Rattle.records.specs.Layout.{isTable}
 use Rattle.records.specs.Holds.{Holds}
 use Rattle.records.proofs.HoldsLaws.{isTable-holds, labels-room}
 use Rattle.lookup.specs.Walking.{Survey, startOn, walkFrom, surveyOn, leaveOn}

@@ -29,7 +29,6 @@ use Rattle.records.specs.declared.Record.{Record}
 use Rattle.lookup.specs.declared.Walk.{Walk}
 use Rattle.lookup.specs.declared.Step.{Step}
 use Rattle.lookup.specs.declared.Step.the-variants.{Down, Last, End, Bad}
-use Rattle.lookup.specs.declared.Met.{Met}
 use Rattle.lookup.specs.declared.Met.the-variants.{Matching, Mismatching}
 use Rattle.lookup.specs.declared.Surveyed.{Surveyed}
 use Rattle.lookup.specs.declared.Surveyed.the-variants.{Path, BadLength, BadPrefix, ShortOut, Damaged}

@@ -13,7 +13,7 @@
 -- Assumes nothing.
 use Prim.Native.Nat.{ℕ, _+_, _≤_}
 use mathlib.Core.Path.{_≡_}
-use mathlib.Core.Bool.{true, false, _&&_, cond}
+use mathlib.Core.Bool.{true, _&&_, cond}
 use mathlib.Core.List.{List, [], _∷_, _++_}
 use mathlib.Core.Option.{Option}
 use lib.Dec.{leb, ltb, eqb}
@@ -24,7 +24,6 @@ use Rattle.zones.specs.Maps.{Map}
 use Rattle.zones.specs.Tree.{Tree, tip, node, Good, entries}
 use Rattle.records.specs.Layout.{tableLength, recordAt, headerAt, keyOf, zoneOf, isSpare}
 use Rattle.records.specs.declared.Record.{Record}
-use Rattle.records.specs.declared.Header.{Header}
 
 abbrev pub Memory : Type 0
 Memory = ℕ → Record

@@ -5,19 +5,19 @@ use Prim.Native.Nat.{ℕ, _+_, _*_, _≤_, zero-le}
 use native.Mathlib.Omega.{arith}
 use mathlib.Core.Path.{_≡_, refl, ap, _∙_}
 use mathlib.Core.Logic.{inl, inr}
-use mathlib.Core.Bool.{true, false, not, _&&_}
+use mathlib.Core.Bool.{false, not, _&&_}
 use mathlib.Core.List.{List, [], _∷_, List·Memᴰ, List·Memᴰ·head, List·Memᴰ·tail}
 use mathlib.Core.Option.{Option, none, some}
 use borrow.Author.Tests.{leb-true}
 use lib.Dec.{T, leb}
-use lib.ListN.{length, length-append}
+use lib.ListN.{length}
 use Rattle.bits.specs.Lists.{any, all, keep, last, lastOr}
 use Rattle.bits.specs.Bits.{Bits, isPrefix, before}
 use Rattle.bits.proofs.ListsLaws.{T-true, and-left, and-right, mem-any, mem-all, all-lastOr, mem-lastOr, keep-none, keep-every}
 use Rattle.bits.proofs.ListsLaws.{length-keep-or, length-keep-imp, length-keep-split}
 use Rattle.bits.proofs.BitsLaws.{lcp-left, before-prefix, isPrefix-between}
 use Rattle.zones.specs.Maps.{Map, keys, ascending}
-use Rattle.zones.specs.Nodes.{nodes, prefixNodes, lastNode, path}
+use Rattle.zones.specs.Nodes.{nodes}
 use Rattle.zones.specs.Slices.{after, remains, passed, found, count, Turn, turns, nextAt, next, counted, pathed, ended}
 use Rattle.zones.proofs.NodesLaws.{Node, mem-nodes}
 use Rattle.zones.proofs.PathLaws.{length-path, length-prefixNodes}

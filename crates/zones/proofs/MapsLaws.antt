@@ -1,11 +1,10 @@
 -- The laws of a map: what a store and a remove do to every key, and that a map is what it answers. No
 -- contract cites this file.
 -- Assumes nothing.
-use Prim.Native.Nat.{ℕ}
 use mathlib.Core.Path.{_≡_, refl, sym, ap, _∙_}
-use mathlib.Core.Bool.{Bool, true, false, not, _&&_, cond, true≢false}
-use mathlib.Core.List.{List, [], _∷_, map, List·Memᴰ, List·Memᴰ·head, List·Memᴰ·tail}
-use mathlib.Core.Option.{Option, none, some, Option·some-injective, Option·some-ne-none, Option·none-ne-some}
+use mathlib.Core.Bool.{Bool, true, false, not, cond, true≢false}
+use mathlib.Core.List.{List, [], _∷_, List·Memᴰ, List·Memᴰ·head, List·Memᴰ·tail}
+use mathlib.Core.Option.{none, some, Option·some-injective, Option·some-ne-none, Option·none-ne-some}
 use lib.Dec.{T}
 use Rattle.bits.specs.Lists.{all, keep}
 use Rattle.bits.specs.Bits.{Bits, order, isBefore, isSame, before, equal, rising}

@@ -2,7 +2,7 @@
 -- prefix of two members, and the nodes ascend. No contract cites this file.
 -- Assumes nothing.
 use mathlib.Core.Path.{_≡_, refl, sym, ap, _∙_}
-use mathlib.Core.Bool.{Bool, true, false, _||_, _&&_, or-self-left}
+use mathlib.Core.Bool.{Bool, true, _||_, or-self-left}
 use mathlib.Core.List.{List, [], _∷_, map, List·Memᴰ}
 use lib.Dec.{T}
 use Rattle.bits.specs.Lists.{any, all, each}

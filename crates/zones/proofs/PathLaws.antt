@@ -1,21 +1,21 @@
 -- The laws of the path of a key: it has at most one node more than the key has bits. No contract cites this
 -- file.
 -- Assumes nothing.
-use Prim.Native.Nat.{ℕ, suc, _+_, _≤_, _<_, zero-le}
+use Prim.Native.Nat.{suc, _+_, _≤_, _<_, zero-le}
 use native.Mathlib.Omega.{arith}
 use mathlib.Core.Path.{_≡_, refl}
-use mathlib.Core.Bool.{Bool, true, false, _&&_, cond}
-use mathlib.Core.List.{List, [], _∷_, _++_, map}
-use mathlib.Core.Option.{Option, none, some}
+use mathlib.Core.Bool.{Bool, true, false, cond}
+use mathlib.Core.List.{List, [], _∷_, _++_}
+use mathlib.Core.Option.{some}
 use borrow.Author.Tests.{eqb-false}
-use lib.Dec.{T, eqb, leb}
+use lib.Dec.{T, eqb}
 use lib.ListN.{length, take, length-append}
 use Rattle.bits.specs.Lists.{any, all, keep, last, lastOr}
 use Rattle.bits.specs.Bits.{Bits, isPrefix, before, rising}
 use Rattle.bits.proofs.ListsLaws.{and-left, and-right, all-keep-same, all-lastOr}
 use Rattle.bits.proofs.BitsLaws.{before-length, isPrefix-length}
 use Rattle.bits.proofs.RisingLaws.{rising-keep}
-use Rattle.zones.specs.Nodes.{nodes, prefixNodes, shortest, shorter, beyond, lastNode, path, trail}
+use Rattle.zones.specs.Nodes.{nodes, prefixNodes, shortest, shorter, beyond, lastNode, path}
 use Rattle.zones.proofs.NodesLaws.{rising-nodes}
 
 -- ---- prefixNodes

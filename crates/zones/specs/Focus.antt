@@ -9,7 +9,6 @@
 -- Assumes nothing.
 use Prim.Native.Nat.{ℕ, zero, suc}
 use mathlib.Core.Bool.{Bool, true, false}
-use mathlib.Core.List.{List, [], _∷_, _++_}
 use mathlib.Core.Option.{Option}
 use Rattle.bits.specs.Bits.{Bits, meet}
 use Rattle.zones.specs.Tree.{Tree, tip, node, onward, collapse}

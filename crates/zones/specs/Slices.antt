@@ -17,12 +17,12 @@
 -- Assumes nothing.
 use Prim.Native.Nat.{ℕ, _+_}
 use mathlib.Core.Bool.{Bool, true, false, not, _&&_}
-use mathlib.Core.List.{List, [], _∷_, _++_, map}
+use mathlib.Core.List.{List, [], _∷_, _++_}
 use mathlib.Core.Option.{Option, none, some}
 use lib.ListN.{length, take, drop}
 use Rattle.bits.specs.Lists.{keep, last, isEmpty}
 use Rattle.bits.specs.Bits.{Bits, before}
-use Rattle.zones.specs.Maps.{Entry, Map, keys}
+use Rattle.zones.specs.Maps.{Map, keys}
 use Rattle.zones.specs.Nodes.{nodes, path}
 
 -- "strictly after the resume prefix (from the start if none is given)"
