@@ -20,9 +20,10 @@ use Rattle.zones.specs.Maps.{Entry, Map, keys, ascending, longestMatch}
 use Rattle.zones.proofs.NodesLaws.{rising-inOrder}
 use Rattle.zones.proofs.TreeLaws.{keys-append, mem-keys}
 use Rattle.image.specs.Image.{properPrefixes, imageNodes, forksIn, forksOf}
-use Rattle.image.proofs.TrieLaws.{Trie, leaf, fork, forks, isFork, zoneAt, Within, rising-forks, next, mem-fork}
+use Rattle.image.specs.Tries.{Trie, leaf, fork, refs}
+use Rattle.image.proofs.TrieLaws.{forks, isFork, zoneAt, Within, rising-forks, next, mem-fork}
 use Rattle.image.proofs.TrieLaws.{member-imageNodes, Proper, isFork-empty, isFork-true, proper-isFork}
-use Rattle.image.proofs.PreorderLaws.{append-bit, Filled, refs, forksIn-refs}
+use Rattle.image.proofs.PreorderLaws.{append-bit, Filled, forksIn-refs}
 use Rattle.image.proofs.LookupLaws.{look}
 use Rattle.image.proofs.WholeLaws.{live, Solid, Whole, depth}
 

@@ -18,8 +18,9 @@ use Rattle.bits.proofs.BitsLaws.{isPrefix-trans, isPrefix-append}
 use Rattle.zones.specs.Maps.{Entry, Map, keys, widest, longestMatch}
 use Rattle.zones.proofs.TreeLaws.{mem-keys}
 use Rattle.image.specs.Image.{Side, toNode, noData, toZone, Fork, forksOf}
-use Rattle.image.proofs.TrieLaws.{Trie, leaf, fork, trieAt, isFork, zoneAt, trieOf, Within, proper-isFork, length-isFork}
-use Rattle.image.proofs.PreorderLaws.{size, sideOf, ref, refs, length-refs, forksOf-refs}
+use Rattle.image.specs.Tries.{Trie, leaf, fork, size, sideOf, ref, refs}
+use Rattle.image.proofs.TrieLaws.{trieAt, isFork, zoneAt, trieOf, Within, proper-isFork, length-isFork}
+use Rattle.image.proofs.PreorderLaws.{length-refs, forksOf-refs}
 
 abbrev pub sideAt : Bool → Fork → Side
 sideAt false f = f .left

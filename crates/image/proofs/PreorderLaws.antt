@@ -15,26 +15,8 @@ use Rattle.bits.specs.Bits.{Bits, isPrefix, equal}
 use Rattle.bits.proofs.BitsLaws.{isPrefix-refl, isPrefix-trans, isPrefix-append, equal-true, order-refl, one-side}
 use Rattle.zones.specs.Maps.{Entry, Map, keys}
 use Rattle.image.specs.Image.{Side, toNode, noData, toZone, leafOf, nodeOr, numberIn, side, Fork, forksIn, forksOf}
-use Rattle.image.proofs.TrieLaws.{Trie, leaf, fork, forks, trieAt, isFork, zoneAt, trieOf, Within, imageNodes-forks}
-
--- the number of forks
-abbrev pub size : Trie → ℕ
-size (leaf o) = 0
-size (fork l r) = suc (size l + size r)
-
-abbrev pub sideOf : Option ℕ → Side
-sideOf none = noData
-sideOf (some z) = toZone z
-
--- what a side says of the trie that hangs there, whose top has the number n
-abbrev pub ref : ℕ → Trie → Side
-ref n (leaf o) = sideOf o
-ref n (fork l r) = toNode n
-
--- the two sides of each fork, from the top
-abbrev pub refs : ℕ → Trie → List Fork
-refs n (leaf o) = []
-refs n (fork l r) = record { left = ref (suc n) l; right = ref (suc n + size l) r } ∷ (refs (suc n) l ++ refs (suc n + size l) r)
+use Rattle.image.specs.Tries.{Trie, leaf, fork, size, sideOf, ref, refs}
+use Rattle.image.proofs.TrieLaws.{forks, trieAt, isFork, zoneAt, trieOf, Within, imageNodes-forks}
 
 -- the number of the fork at q below the top, the top being 0
 abbrev index : Trie → Bits → Option ℕ

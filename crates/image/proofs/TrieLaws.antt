@@ -21,10 +21,7 @@ use Rattle.zones.specs.Tree.{Tree, tip, node, Good, strings}
 use Rattle.zones.proofs.NodesLaws.{member-inOrder, rising-inOrder}
 use Rattle.zones.proofs.TreeLaws.{rising-strings}
 use Rattle.image.specs.Image.{properPrefixes, imageNodes}
-
-pub data Trie : Type 0 where
-  leaf : Option ℕ → Trie
-  fork : Trie → Trie → Trie
+use Rattle.image.specs.Tries.{Trie, leaf, fork}
 
 -- the strings of the forks of a trie at p, from the top, the side of 0 first
 abbrev pub forks : Bits → Trie → List Bits

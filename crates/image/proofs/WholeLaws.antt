@@ -15,7 +15,8 @@ use Rattle.bits.proofs.ListsLaws.{or-left, or-right}
 use Rattle.bits.proofs.BitsLaws.{isPrefix-refl, isPrefix-trans, isPrefix-append, isPrefix-length}
 use Rattle.zones.specs.Maps.{Entry, Map, keys, longestMatch}
 use Rattle.zones.proofs.MatchLaws.{longestMatch-none}
-use Rattle.image.proofs.TrieLaws.{Trie, leaf, fork, trieAt, isFork, zoneAt, trieOf, Within}
+use Rattle.image.specs.Tries.{Trie, leaf, fork}
+use Rattle.image.proofs.TrieLaws.{trieAt, isFork, zoneAt, trieOf, Within}
 use Rattle.image.proofs.TrieLaws.{Next, ends, goes, next, Proper, isFork-true, proper-isFork}
 
 abbrev pub holds : Option ℕ → Bool

@@ -14,16 +14,18 @@
 --   image size m epoch   the whole
 --   fits size m          every record fits the size
 --   imageLength          the paper's length
+--   IsImage              bytes are the image of a list and an epoch
 -- Assumes nothing.
-use Prim.Native.Nat.{ℕ, suc, _+_, _*_, _/_, _^_}
+use Prim.Native.Nat.{ℕ, suc, _+_, _*_, _/_, _^_, _<_}
+use mathlib.Core.Path.{_≡_}
 use mathlib.Core.Bool.{Bool, true, false, cond, _&&_}
 use mathlib.Core.List.{List, [], _∷_, _++_, map}
 use mathlib.Core.Option.{Option, none, some, Option·map}
-use lib.Dec.{ltb, eqb}
+use lib.Dec.{T, leb, ltb, eqb}
 use lib.ListN.{length, replicate}
 use Rattle.bits.specs.Lists.{each, all}
 use Rattle.bits.specs.Bits.{Bits, equal}
-use Rattle.zones.specs.Maps.{Entry, Map, keys, longestMatch}
+use Rattle.zones.specs.Maps.{Entry, Map, keys, ascending, longestMatch}
 use Rattle.zones.specs.Nodes.{inOrder}
 use Rattle.image.specs.Bytes.{bytesOf, short, ascii, text, uint16, uint32, uint64}
 
@@ -174,3 +176,16 @@ fits s m = all (fitsIn s (length (forksOf m)) (zonesOf (forksOf m))) (forksOf m)
 unfoldable pub imageLength : Size → Map → ℕ → ℕ
 imageLength s m epoch =
     nodeLength s * length (forksOf m) + length (dataOf (zonesOf (forksOf m))) + 170 + length (short (length (forksOf m))) + length (short epoch)
+
+-- "the bytes are the image of some list of prefixes and some epoch" (docs/DECISIONS.md, "A list of an image")
+pub record IsImage (s : Size) (bytes : List ℕ) (m : Map) (epoch : ℕ) : Type 0 where
+  -- "A list names each prefix at most once."
+  pub ascends : T (ascending m)
+  -- "a width from 0 to 128"
+  pub narrow : T (all (λ e. leb (length (e .key)) 128) m)
+  -- "any unsigned 32-bit number"
+  pub zones-fit : T (all (λ e. ltb (e .zone) (2 ^ 32)) m)
+  pub records-fit : T (fits s m)
+  -- "any 64-bit number given by the caller"
+  pub epoch-fits : epoch < 2 ^ 64
+  pub bytes-are : bytes ≡ image s m epoch
