@@ -2,3 +2,4 @@ pub mod LayoutLaws
 pub mod OnceLaws
 pub mod HoldsLaws
 pub mod GraftLaws
+pub mod HangingLaws
