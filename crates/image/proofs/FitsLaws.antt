@@ -166,7 +166,7 @@ length-dataOf (z ∷ zs) h =
     rw (length-append (uint32 z) (dataOf zs))
     (omega (arith, length-uint32 z (h z (List·Memᴰ·head refl)), length-dataOf zs (λ y i. h y (List·Memᴰ·tail i))))
 
-zone-below : (m : Map) → T (all (λ e. ltb (e .zone) (2 ^ 32)) m) → (z : ℕ) → List·Memᴰ z (map (λ e. e .zone) m) → z < 2 ^ 32
+pub zone-below : (m : Map) → T (all (λ e. ltb (e .zone) (2 ^ 32)) m) → (z : ℕ) → List·Memᴰ z (map (λ e. e .zone) m) → z < 2 ^ 32
 zone-below m h z i =
     let w = Memᴰ·of-map (λ e. e .zone) m i in
     rw (← (w .2)) (ltb→lt (w .0 .zone) (2 ^ 32) (all-mem (λ e. ltb (e .zone) (2 ^ 32)) m h (w .0) (w .1)))

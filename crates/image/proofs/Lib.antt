@@ -1,4 +1,5 @@
 pub mod LengthLaws
+pub mod BytesLaws
 pub mod ZonesLaws
 pub mod FitsLaws
 pub mod TrieLaws
@@ -6,3 +7,8 @@ pub mod PreorderLaws
 pub mod LookupLaws
 pub mod WholeLaws
 pub mod LeavesLaws
+pub mod ForkedLaws
+pub mod GrowLaws
+pub mod SetsLaws
+pub mod NodeCountLaws
+pub mod TreeBytesLaws

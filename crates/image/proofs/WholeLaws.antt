@@ -123,7 +123,7 @@ depth-trieOf n m = depth-trieAt (isFork (keys m)) (zoneAt m) n []
 
 -- ---- Whole
 
-keys-mem : (m : Map) (k : Bits) → List·Memᴰ k (keys m) → (e : Entry) × List·Memᴰ e m × (e .key ≡ k)
+pub keys-mem : (m : Map) (k : Bits) → List·Memᴰ k (keys m) → (e : Entry) × List·Memᴰ e m × (e .key ≡ k)
 unfolding keys
 keys-mem (e ∷ m) k (List·Memᴰ·head h) = (e, List·Memᴰ·head refl, sym h)
 keys-mem (e ∷ m) k (List·Memᴰ·tail i) = let u = keys-mem m k i in (u .0, List·Memᴰ·tail (u .1), u .2)

@@ -43,7 +43,7 @@ all-add x z [] h k = and-both (ltb x z) true h tt
 all-add x z (y ∷ ys) h k =
     all-add-at (ltb z y) (eqb z y) x z y ys h k (all-add x z ys h (and-right (ltb x y) (all (ltb x) ys) k))
 
-below-all : (z y : ℕ) (ys : List ℕ) → z < y → T (all (ltb y) ys) → T (all (ltb z) (y ∷ ys))
+pub below-all : (z y : ℕ) (ys : List ℕ) → z < y → T (all (ltb y) ys) → T (all (ltb z) (y ∷ ys))
 below-all z y ys l h =
     and-both (ltb z y) (all (ltb z) ys) (lt→ltb z y l) (all-imp (ltb y) (ltb z) (λ x i. lt→ltb z x (omega (arith, ltb→lt y x i))) ys h)
 
@@ -129,7 +129,7 @@ drop-offset z (y ∷ ys) i = drop-offset-at (eqb y z) y z ys refl i (drop-offset
 pub take-offset : (z : ℕ) (zs : List ℕ) → List·Memᴰ z zs → take (length (uint32 z)) (drop (offset zs z) (dataOf zs)) ≡ uint32 z
 take-offset z zs i = rw (drop-offset z zs i) (take-append-seam (uint32 z) (drop (offset zs z + length (uint32 z)) (dataOf zs)))
 
-one-byte : (z : ℕ) → 1 ≤ length (uint32 z)
+pub one-byte : (z : ℕ) → 1 ≤ length (uint32 z)
 unfolding uint32
 one-byte z = omega arith
 

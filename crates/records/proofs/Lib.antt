@@ -3,3 +3,4 @@ pub mod OnceLaws
 pub mod HoldsLaws
 pub mod GraftLaws
 pub mod HangingLaws
+pub mod EntriesLaws

@@ -52,7 +52,7 @@ path-treeOf m h k = rw (entries-treeOf m h) at (path-entries [] (treeOf m) (good
 
 -- ---- shape: what a node is, told from the entries alone
 
-meet-refl : (s : Bits) → meet s s ≡ Equal
+pub meet-refl : (s : Bits) → meet s s ≡ Equal
 meet-refl [] = refl
 meet-refl (false ∷ s) = meet-refl s
 meet-refl (true ∷ s) = meet-refl s
