@@ -11,7 +11,6 @@ use mathlib.Core.Bool.{Bool, true, false, _&&_, cond}
 use mathlib.Core.List.{List, [], _∷_, _++_}
 use lib.Dec.{ltb, eqb}
 use lib.ListN.{length, take, drop, getD}
-use Rattle.image.specs.Bytes.{short}
 use Rattle.image.specs.Image.{size24, marker, metadata}
 use Rattle.metadata.specs.declared.Counted.{Counted}
 use Rattle.metadata.specs.declared.Counted.the-variants as counted
