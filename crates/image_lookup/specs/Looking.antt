@@ -5,7 +5,9 @@
 --   entryOn bs at       the data entry at a byte
 --   leafOn bs n r       what a record answers that is no node, of n nodes
 --   walkOn bs n i k     the search from the node i by the bits of k
+--   followOn bs n i k   the last record that the search reads: a node where the bits run out
 --   lookOn bs k         what the lookup answers
+--   addressBits         the 128 bits of four words
 --   numberOf, valuesOf  the paper's number of an answer, 0 where accepted, and its values
 --   foundOf             the answer for a longest match
 --   LookImage           the contract of `look`
@@ -13,11 +15,12 @@
 use Prim.Native.Nat.{ℕ, _+_, _-_, _*_}
 use mathlib.Core.Path.{_≡_}
 use mathlib.Core.Bool.{Bool, _&&_, cond}
-use mathlib.Core.List.{List, [], _∷_}
+use mathlib.Core.List.{List, [], _∷_, _++_}
 use mathlib.Core.Option.{Option, none, some}
 use lib.Dec.{leb, ltb, eqb}
 use lib.ListN.{length, getD}
 use Rattle.bits.specs.Bits.{Bits}
+use Rattle.bits.specs.Numbers.{bitsOf}
 use Rattle.zones.specs.Maps.{Entry, Map, longestMatch}
 use Rattle.image.specs.Image.{size24, IsImage}
 use Rattle.metadata.specs.Frames.{numberAt, countOn}
@@ -46,12 +49,20 @@ abbrev pub walkOn : List ℕ → ℕ → ℕ → Bits → Looked
 walkOn bs n i [] = BadImage
 walkOn bs n i (x ∷ k) = cond (ltb (recordIn bs i x) n) (walkOn bs n (recordIn bs i x) k) (leafOn bs n (recordIn bs i x))
 
+abbrev pub followOn : List ℕ → ℕ → ℕ → Bits → ℕ
+followOn bs n i [] = i
+followOn bs n i (x ∷ k) = cond (ltb (recordIn bs i x) n) (followOn bs n (recordIn bs i x) k) (recordIn bs i x)
+
 abbrev pub lookFrom : List ℕ → Counted → Bits → Looked
 lookFrom bs counted.Bad k = BadImage
 lookFrom bs (counted.Nodes n a e) k = cond (leb (6 * n) (length bs)) (walkOn bs n 0 k) BadImage
 
 unfoldable pub lookOn : List ℕ → Bits → Looked
 lookOn bs k = lookFrom bs (countOn bs) k
+
+-- "Image lookup takes 128 bits" (in four words, as a prefix of width 128 has them)
+unfoldable pub addressBits : ℕ → ℕ → ℕ → ℕ → Bits
+addressBits w0 w1 w2 w3 = bitsOf 32 w0 ++ (bitsOf 32 w1 ++ (bitsOf 32 w2 ++ bitsOf 32 w3))
 
 -- No. 9, BadImage: "lookup met bytes no image has"
 abbrev pub numberOf : Looked → ℕ
