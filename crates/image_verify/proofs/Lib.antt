@@ -1,0 +1,11 @@
+pub mod StandsLaws
+pub mod UsesLaws
+pub mod GrownLaws
+pub mod ReadLaws
+pub mod EntriesLaws
+pub mod ExactLaws
+pub mod TreeBytesLaws
+pub mod PartsLaws
+pub mod ImageLaws
+pub mod AcceptedLaws
+pub mod PromiseLaws
