@@ -1,0 +1,3 @@
+pub mod RunsLaws
+pub mod OffsetLaws
+pub mod PlaceLaws
