@@ -1,1 +1,4 @@
 pub mod Writing
+pub mod Parts
+pub mod Stalks
+pub mod Planting
