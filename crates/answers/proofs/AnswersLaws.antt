@@ -2,6 +2,7 @@
 -- Assumes nothing.
 use Prim.Native.Nat.{ℕ}
 use mathlib.Core.Path.{refl}
+use mathlib.Core.Bool.{cond}
 use mathlib.Core.List.{[], _∷_}
 use Rattle.ground.specs.Cells as ground
 use Rattle.ground.specs.Cells.{cellOf}
@@ -45,9 +46,22 @@ use Rattle.audit.proofs.HoldsLaws.{auditOn-yes, auditOn-holds}
 use Rattle.history.proofs.ReachedLaws.{reached-holds, demand-3, history-adds-nothing}
 use Rattle.history.proofs.SequencesLaws.{tableSays-fresh}
 use Rattle.history.proofs.AcceptedLaws.{answers-holds, listedCounts-whole}
+use Rattle.image.specs.Image.{size24, image}
+use Rattle.image_lookup.specs.Looking as looking
+use Rattle.image_lookup.specs.Looking.{lookOn}
+use Rattle.image_lookup.specs.declared.Looked.{Looked}
+use Rattle.image_lookup.specs.declared.Looked.the-variants as looked
+use Rattle.image_lookup.proofs.LookingLaws.{lookOn-image}
+use Rattle.image_verify.specs.Verifying as verifying
+use Rattle.image_verify.specs.Verifying.{verifyOn}
+use Rattle.image_verify.specs.declared.Verified.{Verified}
+use Rattle.image_verify.specs.declared.Verified.the-variants.{Yes, BadImage}
+use Rattle.image_verify.proofs.AcceptedLaws.{verifyOn-yes}
+use Rattle.image_verify.proofs.ImageLaws.{verifyOn-image}
 use Rattle.answers.specs.First.{OneOf, NoInputStops}
 use Rattle.answers.specs.Second.{ZoneIsRight}
 use Rattle.answers.specs.Third.{WorkIsBounded}
+use Rattle.answers.proofs.ShippedLaws.{isImage-holds}
 
 -- ---- the numbers of each call's answers
 
@@ -101,6 +115,15 @@ check-numbers audited.Yes = tt
 check-numbers audited.No = tt
 check-numbers audited.BadLength = tt
 
+look-numbers : (r : Looked) → OneOf (0 ∷ 9 ∷ []) (looking.numberOf r)
+look-numbers (looked.Zone z) = tt
+look-numbers looked.NoData = tt
+look-numbers looked.BadImage = tt
+
+verify-numbers : (r : Verified) → OneOf (0 ∷ 9 ∷ []) (verifying.numberOf r)
+verify-numbers Yes = tt
+verify-numbers BadImage = tt
+
 -- ---- the answers
 
 -- Can any fix or map file stop the unit? No.
@@ -114,6 +137,8 @@ answer-1 =
       remove = λ ws k bs. remove-numbers (removeOn ws k bs .answer);
       slice = λ ws r b us. slice-numbers (sliceOn ws r b us .answer);
       check = λ ws. check-numbers (auditOn ws);
+      image-look = λ bs k. look-numbers (lookOn bs k);
+      image-check = λ bs. verify-numbers (cond (verifyOn bs) Yes BadImage);
       fetch-first = λ ws k bs. fetch-promise ws k bs _ _ refl .refusal;
       longest-first = λ ws k bs. longest-promise ws k bs _ _ refl .refusal;
       store-first = λ ws k z bs. store-promise ws k z bs _ _ _ refl .refusal;
@@ -138,6 +163,12 @@ answer-2 =
       answers = λ {ws} {m} r. answers-holds ws m (reached-holds r);
       plain-map = tableSays-fresh;
       check-exact = auditOn-holds;
+      image-accepted = verifyOn-yes;
+      image-exact = verifyOn-image;
+      image-answers = λ bs m epoch h. lookOn-image h;
+      image-ships = λ ws m epoch h words small.
+          let i = isImage-holds ws m epoch h words small in
+          (verifyOn-image (image size24 m epoch) m epoch i, lookOn-image i);
       checked = λ ws e. let w = auditOn-yes ws e in (w .0, (w .1, answers-holds ws (w .0) (w .1)));
     }
 

@@ -1,1 +1,2 @@
+pub mod ShippedLaws
 pub mod AnswersLaws

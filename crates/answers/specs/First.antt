@@ -8,12 +8,13 @@
 -- Assumes nothing.
 use Prim.Native.Nat.{ℕ, suc}
 use mathlib.Core.Path.{_≡_}
-use mathlib.Core.Bool.{true}
+use mathlib.Core.Bool.{true, cond}
 use mathlib.Core.List.{List, [], _∷_}
 use lib.Dec.{T, eqb}
 use lib.IntN.{ℤ}
 use lib.ListN.{length}
 use Rattle.bits.specs.Lists.{any}
+use Rattle.bits.specs.Bits.{Bits}
 use Rattle.prefix.specs.declared.Prefix.{Prefix}
 use Rattle.ground.specs.Cells as ground
 use Rattle.ground.specs.Cells.{cellOf}
@@ -31,6 +32,11 @@ use Rattle.listing.specs.Slicing.{numberOfRefused, refusedOf, sliceOn}
 use Rattle.listing.specs.declared.Resume.{Resume}
 use Rattle.audit.specs.Checking as checking
 use Rattle.audit.specs.Checking.{auditOn}
+use Rattle.image_lookup.specs.Looking as looking
+use Rattle.image_lookup.specs.Looking.{lookOn}
+use Rattle.image_verify.specs.Verifying as verifying
+use Rattle.image_verify.specs.Verifying.{verifyOn}
+use Rattle.image_verify.specs.declared.Verified.the-variants.{Yes, BadImage}
 
 abbrev pub OneOf : List ℕ → ℕ → Type 0
 OneOf ns n = T (any (eqb n) ns)
@@ -46,6 +52,8 @@ pub record NoInputStops : Type 0 where
   pub slice : (ws : List ℕ) (r : Resume) (b : ℕ) (us : List ℕ)
       → OneOf (0 ∷ 1 ∷ 2 ∷ 4 ∷ 5 ∷ 6 ∷ []) (slicing.numberOf (sliceOn ws r b us .answer))
   pub check : (ws : List ℕ) → OneOf (0 ∷ 1 ∷ []) (checking.numberOf (auditOn ws))
+  pub image-look : (bs : List ℕ) (k : Bits) → OneOf (0 ∷ 9 ∷ []) (looking.numberOf (lookOn bs k))
+  pub image-check : (bs : List ℕ) → OneOf (0 ∷ 9 ∷ []) (verifying.numberOf (cond (verifyOn bs) Yes BadImage))
   -- ---- "The first that applies, in this order, is given"
   pub fetch-first : (ws : List ℕ) (k : Prefix) (bs : List ℕ) (n : ℕ) → firstRefusal ws k (length bs) ≡ suc n
       → fetching.numberOf (fetchOn ws k bs .answer) ≡ suc n

@@ -4,14 +4,15 @@
 -- image answers every 128-bit address as that list does."
 --   ZoneIsRight       the second answer
 -- Assumes nothing.
-use Prim.Native.Nat.{ℕ, _≤_}
+use Prim.Native.Nat.{ℕ, _^_, _≤_, _<_}
 use mathlib.Core.Path.{_≡_}
 use mathlib.Core.Bool.{true}
 use mathlib.Core.List.{List, [], List·Memᴰ}
 use mathlib.Core.Option.{none, some}
-use lib.Dec.{T}
+use lib.Dec.{T, ltb}
 use lib.IntN.{ℤ}
-use lib.ListN.{length}
+use lib.ListN.{length, getD}
+use Rattle.bits.specs.Lists.{all}
 use Rattle.bits.specs.Bits.{Bits, isPrefix}
 use Rattle.prefix.specs.Keys.{Valid}
 use Rattle.prefix.specs.declared.Prefix.{Prefix}
@@ -27,6 +28,9 @@ use Rattle.history.specs.Reached.{Reached}
 use Rattle.history.specs.Accepted.{Answers}
 use Rattle.history.specs.Sequences.{Call, tableSays, mapSays}
 use Rattle.history.proofs.SequencesLaws.{ValidKeys}
+use Rattle.image.specs.Image.{size24, image, IsImage}
+use Rattle.image_lookup.specs.Looking.{lookOn, foundOf}
+use Rattle.image_verify.specs.Verifying.{verifyOn}
 
 pub record ZoneIsRight : Type 0 where
   -- a fix's cell is the paper's 64 bits
@@ -42,3 +46,13 @@ pub record ZoneIsRight : Type 0 where
   -- ---- the whole-table check: yes exactly for a table of some map, and then every call answers as that map
   pub check-exact : (ws : List ℕ) (m : Map) → Holds ws m → auditOn ws ≡ Yes
   pub checked : (ws : List ℕ) → auditOn ws ≡ Yes → (m : Map) × (Holds ws m × Answers ws m)
+  -- ---- "The checker accepts exactly the images that some list gives" (of bytes, as the machine has them)
+  pub image-accepted : (bs : List ℕ) → T (all (λ b. ltb b 256) bs) → verifyOn bs ≡ true → (m : Map) × ((epoch : ℕ) × IsImage size24 bs m epoch)
+  pub image-exact : (bs : List ℕ) (m : Map) (epoch : ℕ) → IsImage size24 bs m epoch → verifyOn bs ≡ true
+  -- "an accepted image answers every 128-bit address as that list does"
+  pub image-answers : (bs : List ℕ) (m : Map) (epoch : ℕ) → IsImage size24 bs m epoch → (k : Bits) → length k ≡ 128
+      → lookOn bs k ≡ foundOf (longestMatch k m)
+  -- the image of a table's map is accepted, and answers as the table does
+  pub image-ships : (ws : List ℕ) (m : Map) (epoch : ℕ) → Holds ws m → ((i : ℕ) → getD ws i 0 < 2 ^ 32) → epoch < 2 ^ 64
+      → (verifyOn (image size24 m epoch) ≡ true)
+      × ((k : Bits) → length k ≡ 128 → lookOn (image size24 m epoch) k ≡ foundOf (longestMatch k m))
