@@ -25,9 +25,9 @@ use Rattle.image.proofs.ZonesLaws.{uses, zonesOf-mem}
 use Rattle.image.proofs.NodeCountLaws.{length-forksOf-pos}
 use Rattle.metadata.specs.Frames.{tailOf}
 use Rattle.metadata.proofs.ImageLaws.{frontOf, length-frontOf, image-parts, countOn-image}
-use Rattle.image_lookup.specs.Looking.{leafOn, walkOn, lookOn, foundOf, LookImage}
+use Rattle.image_lookup.specs.Looking.{leafOn, walkOn, lookOn, numberOf, valuesOf, foundOf, LookImage}
 use Rattle.image_lookup.specs.declared.Looked.{Looked}
-use Rattle.image_lookup.specs.declared.Looked.the-variants.{Zone, NoData}
+use Rattle.image_lookup.specs.declared.Looked.the-variants.{Zone, NoData, BadImage}
 use Rattle.image_lookup.proofs.ImageLaws.{mem-forkNo, recordIn-image, leafOn-noData, leafOn-zone}
 
 abbrev answerOf : Option ℕ → Looked
@@ -104,8 +104,23 @@ module _ {bs : List ℕ} {m : Map} {epoch : ℕ} (h : IsImage size24 bs m epoch)
 
 -- ---- the promise
 
+numberOf-found : (o : Option Entry) → numberOf (foundOf o) ≡ 0
+numberOf-found none = refl
+numberOf-found (some e) = refl
+
+valuesOf-refused : (r : Looked) → numberOf r ≡ 9 → valuesOf r ≡ 0 ∷ 0 ∷ []
+valuesOf-refused (Zone z) h = absurd (omega arith)
+valuesOf-refused NoData h = refl
+valuesOf-refused BadImage h = refl
+
 pub look-promise : (bs : List ℕ) (k : Bits) (r : Looked) → length k ≡ 128 → r ≡ lookOn bs k → LookImage bs k r
-look-promise bs k r l e = record { answer = e; meaning = λ m epoch h. e ∙ lookOn-image h k l }
+look-promise bs k r l e =
+    record {
+      answer = e;
+      meaning = λ m epoch h. e ∙ lookOn-image h k l;
+      number = λ m epoch h. ap numberOf (e ∙ lookOn-image h k l) ∙ numberOf-found (longestMatch k m);
+      kept = valuesOf-refused r;
+    }
 
 -- two answers that meet the promise are one
 pub look-single : (bs : List ℕ) (k : Bits) (r q : Looked) → LookImage bs k r → LookImage bs k q → r ≡ q

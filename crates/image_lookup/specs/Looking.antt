@@ -87,3 +87,7 @@ pub record LookImage (bs : List ℕ) (k : Bits) (r : Looked) : Type 0 where
   pub answer : r ≡ lookOn bs k
   -- "it is right for bytes the checker accepted": the longest match of any list that gives these bytes
   pub meaning : (m : Map) (epoch : ℕ) → IsImage size24 bs m epoch → r ≡ foundOf (longestMatch k m)
+  -- "lookup met bytes no image has": never in an image
+  pub number : (m : Map) (epoch : ℕ) → IsImage size24 bs m epoch → numberOf r ≡ 0
+  -- "all others return zero counts"
+  pub kept : numberOf r ≡ 9 → valuesOf r ≡ 0 ∷ 0 ∷ []

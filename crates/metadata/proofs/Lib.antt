@@ -1,6 +1,6 @@
 pub mod ValueLaws
 pub mod TailLaws
+pub mod ReadingLaws
 pub mod FramesLaws
 pub mod WritingLaws
-pub mod ReadingLaws
 pub mod ImageLaws

@@ -1,21 +1,21 @@
 -- The laws of reading the end of an image: a law for each turn of the loops that go back to a key and that
 -- compare bytes, and for each way out of `count` and `frame`. No contract cites this file.
 -- Assumes nothing.
-use Prim.Native.Nat.{ℕ, suc, _+_, _-_, _^_, _≤_, _<_}
+use Prim.Native.Nat.{ℕ, zero, suc, _+_, _-_, _^_, _≤_, _<_}
 use native.Mathlib.Nat.{zero-add, sub-zero, lt-of-lt-of-le, pow-le-pow-right}
 use native.Mathlib.Numerals.{add-one}
 use native.Mathlib.Omega.{arith}
 use mathlib.Core.Path.{_≡_, refl, sym, ap, _∙_}
-use mathlib.Core.Bool.{Bool, true, false, _&&_}
+use mathlib.Core.Bool.{Bool, true, false, _&&_, cond}
 use mathlib.Core.List.{List, [], _∷_, _++_}
-use lib.Dec.{eqb, lit<}
+use lib.Dec.{ltb, eqb, lit<}
 use lib.ListN.{length, take, drop, getD, length-drop}
 use lib.Seq.{drop-cons, drop-length, take-all, take-append-seam, sets-eq}
-use borrow.Author.Tests.{lt-ltb, le-ltb, eq-eqb, ne-eqb}
+use borrow.Author.Tests.{lt-ltb, le-ltb, eq-eqb, ne-eqb, ltb-true, ltb-false, eqb-true, eqb-false}
 use Rattle.image.specs.Bytes.{short}
 use Rattle.image.proofs.LengthLaws.{length-short, length-short-below}
 use Rattle.metadata.specs.Frames.{numberAt, tailOf, stepsBack, epochBytes, nodesBytes, countOn, sameBytes, frameOf, frameOn}
-use Rattle.metadata.specs.Writing.{Put}
+use Rattle.metadata.specs.Writing.{Put, Counts}
 use Rattle.metadata.specs.declared.Counted.{Counted}
 use Rattle.metadata.specs.declared.Counted.the-variants as counted
 use Rattle.metadata.specs.declared.Framed.the-variants as framed
@@ -94,6 +94,44 @@ module _ (bs : List ℕ) (e : ℕ) (long : 177 ≤ length bs) (at : e ≡ epochB
     pub countOn-both : (a ≡ 4 → ⊥) → (n : ℕ) → n ≡ numberAt bs (length bs - e - 127 - a) a → counted.Nodes n a e ≡ countOn bs
     unfolding countOn
     countOn-both h n q = simp (le-ltb (length bs) 177 long, ← at, ne-eqb e 9 some, ← nodes, ne-eqb a 4 h, q)
+
+stepsBack-le : (bs : List ℕ) (at b f : ℕ) → stepsBack bs at b f ≤ f
+stepsBack-le bs at b zero = omega arith
+stepsBack-le bs at b (suc f) = here (eqb (getD bs at 0) b) (stepsBack-le bs (at - 1) b f)
+  where
+    here : (t : Bool) → stepsBack bs (at - 1) b f ≤ f → cond t 0 (suc (stepsBack bs (at - 1) b f)) ≤ suc f
+    here true h = omega arith
+    here false h = omega arith
+
+epochBytes-le : (bs : List ℕ) → epochBytes bs ≤ 9
+unfolding epochBytes
+epochBytes-le bs = stepsBack-le bs (length bs - 14) 0x4B 9
+
+nodesBytes-between : (bs : List ℕ) (e : ℕ) → (1 ≤ nodesBytes bs e) × (nodesBytes bs e ≤ 4)
+unfolding nodesBytes
+nodesBytes-between bs e = (omega arith, omega (arith, stepsBack-le bs (length bs - e - 140) 0x4A 3))
+
+counts-found : (bs : List ℕ) (n a e : ℕ) → 177 ≤ length bs → (epochBytes bs ≡ 9 → ⊥) → (nodesBytes bs (epochBytes bs) ≡ 4 → ⊥)
+    → countOn bs ≡ counted.Nodes n a e → Counts bs n a e
+counts-found bs n a e l p q h =
+    let found = countOn-both bs (epochBytes bs) l refl p (nodesBytes bs (epochBytes bs)) refl q _ refl ∙ h in
+    let ee : epochBytes bs ≡ e = cc in
+    let ea : nodesBytes bs (epochBytes bs) ≡ a = cc in
+    let en : numberAt bs (length bs - epochBytes bs - 127 - nodesBytes bs (epochBytes bs)) (nodesBytes bs (epochBytes bs)) ≡ n = cc in
+    let w = nodesBytes-between bs (epochBytes bs) in
+    record { long = l; few = omega (arith, epochBytes-le bs, p); some = omega arith; fits = omega (arith, q); count = sym (rw (ea, ee) at en) }
+
+pub countOn-nodes : (bs : List ℕ) (n a e : ℕ) → countOn bs ≡ counted.Nodes n a e → Counts bs n a e
+countOn-nodes bs n a e h = go (ltb (length bs) 177) (eqb (epochBytes bs) 9) (eqb (nodesBytes bs (epochBytes bs)) 4) refl refl refl
+  where
+    none : counted.Bad ≡ countOn bs → ⊥
+    none q = let z : _≡_ {A = ℕ} 0 1 = cc in omega arith
+
+    go : (p q r : Bool) → ltb (length bs) 177 ≡ p → eqb (epochBytes bs) 9 ≡ q → eqb (nodesBytes bs (epochBytes bs)) 4 ≡ r → Counts bs n a e
+    go true q r hp hq hr = absurd (none (countOn-short bs (ltb-true _ _ hp)))
+    go false true r hp hq hr = absurd (none (countOn-no-epoch bs _ (ltb-false _ _ hp) refl (eqb-true _ _ hq)))
+    go false false true hp hq hr = absurd (none (countOn-no-count bs _ (ltb-false _ _ hp) refl (eqb-false _ _ hq) _ refl (eqb-true _ _ hr)))
+    go false false false hp hq hr = counts-found bs n a e (ltb-false _ _ hp) (eqb-false _ _ hq) (eqb-false _ _ hr) h
 
 -- a number of at most three bytes
 pub three-bytes : (a v : ℕ) → a ≤ 3 → v < 256 ^ a → v < 2 ^ 24

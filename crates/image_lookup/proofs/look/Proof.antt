@@ -3,7 +3,7 @@
 use native.Mathlib.Omega.{arith}
 use mathlib.Core.Path.{sym, _∙_}
 use borrow.Author.Needs.{needs}
-use Rattle.metadata.proofs.FramesLaws.{countOn-nodes}
+use Rattle.metadata.proofs.ReadingLaws.{countOn-nodes}
 use Rattle.image_lookup.proofs.ReadingLaws.{length-addressBits, lookOn-bad, lookOn-short, lookOn-walk}
 use Rattle.image_lookup.proofs.LookingLaws.{look-promise}
 use Rattle.image_lookup.proofs.look.Statement.{statement}

@@ -3,8 +3,7 @@
 use mathlib.Core.Path.{sym, _∙_}
 use borrow.Author.Needs.{needs}
 use Rattle.metadata.specs.declared.Counted.the-variants as counted
-use Rattle.metadata.proofs.FramesLaws.{countOn-nodes}
-use Rattle.metadata.proofs.ReadingLaws.{frameOn-count}
+use Rattle.metadata.proofs.ReadingLaws.{countOn-nodes, frameOn-count}
 use Rattle.metadata.proofs.frame.Statement.{statement}
 use Rattle.metadata.proofs.frame.Tie as tie
 
