@@ -35,7 +35,7 @@ unfolding dataOf
 length-dataOf-cons z zs = length-append (uint32 z) (dataOf zs)
 
 -- each entry has a byte
-length-dataOf-le : (zs : List ℕ) → length zs ≤ length (dataOf zs)
+pub length-dataOf-le : (zs : List ℕ) → length zs ≤ length (dataOf zs)
 length-dataOf-le [] = omega arith
 length-dataOf-le (z ∷ zs) = omega (arith, length-dataOf-cons z zs, one-byte z, length-dataOf-le zs)
 
@@ -44,7 +44,7 @@ module _ (bs : List ℕ) (end : ℕ) where
   unfolding dataOf
   entries-none at e = record { bytes = rw e; ends = omega arith; ascends = tt; fit = λ z i. absurd (List·Memᴰ·not-nil i) }
 
-  entries-tail : (at z : ℕ) (zs : List ℕ) → Entries bs at end (z ∷ zs) → Entries bs (at + length (uint32 z)) end zs
+  pub entries-tail : (at z : ℕ) (zs : List ℕ) → Entries bs at end (z ∷ zs) → Entries bs (at + length (uint32 z)) end zs
   unfolding dataOf
   entries-tail at z zs h = record {
     bytes = sym (drop-drop (length (uint32 z)) at bs) ∙ rw (h .bytes, append-assoc) (drop-append-seam (uint32 z) (dataOf zs ++ drop end bs));
@@ -53,13 +53,13 @@ module _ (bs : List ℕ) (end : ℕ) where
     fit = λ y i. h .fit y (List·Memᴰ·tail i);
   }
 
-  readOn-entries : (at z : ℕ) (zs : List ℕ) → Entries bs at end (z ∷ zs) → readOn bs at end ≡ read.Entry (at + length (uint32 z)) z
+  pub readOn-entries : (at z : ℕ) (zs : List ℕ) → Entries bs at end (z ∷ zs) → readOn bs at end ≡ read.Entry (at + length (uint32 z)) z
   unfolding dataOf
   readOn-entries at z zs h =
       readOn-entry bs at end z (dataOf zs ++ drop end bs) (h .fit z (List·Memᴰ·head refl)) (h .bytes ∙ append-assoc (uint32 z) (dataOf zs) (drop end bs))
       (omega (arith, h .ends, length-dataOf-cons z zs))
 
-  entries-lt : (at z : ℕ) (zs : List ℕ) → Entries bs at end (z ∷ zs) → at < end
+  pub entries-lt : (at z : ℕ) (zs : List ℕ) → Entries bs at end (z ∷ zs) → at < end
   entries-lt at z zs h = omega (arith, h .ends, length-dataOf-cons z zs, one-byte z)
 
   -- there are no more entries than bytes

@@ -132,7 +132,7 @@ module _ (bs : List ℕ) (m : Map) (epoch : ℕ) (is : IsImage size24 bs m epoch
   zoned-image : Zoned zs (trieOf 128 m)
   zoned-image = rw refs-are (zoned-zonesOf (trieOf 128 m) (whole-trieOf 128 m (omega arith) within))
 
-  parts-image : Parts bs n (length front) zs (trieOf 128 m)
+  pub parts-image : Parts bs n (length front) zs (trieOf 128 m)
   parts-image = record {
     stands = stands-image;
     whole-is = whole-trieOf 128 m (omega arith) within;
@@ -144,7 +144,7 @@ module _ (bs : List ℕ) (m : Map) (epoch : ℕ) (is : IsImage size24 bs m epoch
     zoned = zoned-image;
   }
 
-  frame-image : frameOn bs ≡ framed.Frame n (length front) epoch
+  pub frame-image : frameOn bs ≡ framed.Frame n (length front) epoch
   frame-image =
       rw front-tail
       (frameOn-tail front n epoch (omega (arith, length-front, length-forksOf-pos m)) (length-forksOf-pos m) (length-forksOf-fits size24 m (is .records-fit)) (is .epoch-fits))

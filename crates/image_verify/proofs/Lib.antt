@@ -9,3 +9,11 @@ pub mod PartsLaws
 pub mod ImageLaws
 pub mod AcceptedLaws
 pub mod PromiseLaws
+pub mod MarksLaws
+pub mod ReadingLaws
+pub mod NodesLaws
+pub mod StartsLaws
+pub mod StretchLaws
+pub mod CoveredLaws
+pub mod CheckLaws
+pub mod DescribingLaws

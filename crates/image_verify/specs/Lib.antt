@@ -1,1 +1,3 @@
 pub mod Verifying
+pub mod Describing
+pub mod Marks
