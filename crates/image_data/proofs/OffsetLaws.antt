@@ -55,7 +55,7 @@ getD-ascending (y ∷ ys) (suc i) (suc j) h l k =
 
 -- ---- dataOf
 
-dataOf-append : (xs ys : List ℕ) → dataOf (xs ++ ys) ≡ dataOf xs ++ dataOf ys
+pub dataOf-append : (xs ys : List ℕ) → dataOf (xs ++ ys) ≡ dataOf xs ++ dataOf ys
 unfolding dataOf
 dataOf-append [] ys = refl
 dataOf-append (x ∷ xs) ys = rw (dataOf-append xs ys) (sym (append-assoc (uint32 x) (dataOf xs) (dataOf ys)))

@@ -5,3 +5,6 @@ pub mod TreeBytesLaws
 pub mod StockLaws
 pub mod PlantLaws
 pub mod TableLaws
+pub mod WholeLaws
+pub mod ImageLaws
+pub mod WriteLaws

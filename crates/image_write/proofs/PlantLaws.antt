@@ -28,7 +28,8 @@ use Rattle.image_write.proofs.PartLaws.{Seen, seen, length-way, size-en
 use Rattle.image_write.proofs.PartLaws as part
 use Rattle.image_write.proofs.StockLaws.{stocked-sets, stocked-length}
 use Rattle.image_write.proofs.StalkLaws.{length-stalkBytes}
-use Rattle.image_write.proofs.TreeBytesLaws.{uses-left, uses-right, uses-stalk, reaches-leaf, bytesFrom, recordTo, length-bytesFrom, bytesFrom-leaf, recordTo-stalk, bytesFrom-stalk, sets-forked}
+use Rattle.image_write.proofs.TreeBytesLaws.{uses-left, uses-right, uses-stalk, reaches-leaf}
+use Rattle.image_write.proofs.TreeBytesLaws.{bytesFrom, recordTo, length-bytesFrom, bytesFrom-leaf, recordTo-stalk, bytesFrom-stalk, sets-forked}
 
 -- ---- where nothing hangs
 

@@ -1,4 +1,4 @@
--- A part of a table's tree, as the writer goes down it: what it may rely on, and what it leaves in the output.
+-- A part of a table's tree whose image nodes are counted.
 -- Paper 01, "The image".
 --   Part                a part of the tree, small enough to be counted
 --   bothEnd r           a record has no side
@@ -16,7 +16,7 @@ use Rattle.records.specs.declared.Record.{Record}
 pub record Part (ws : List ℕ) (l a : ℕ) : Type 0 where
   pub tree : Tree ℕ
   pub hangs : Hangs ws l a tree
-  -- "c is 1 to 65,535"
+  -- no more nodes than a table has records
   pub few : length (labels tree) ≤ 65535
 
 unfoldable pub bothEnd : Record → Bool

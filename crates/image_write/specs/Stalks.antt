@@ -1,9 +1,10 @@
 -- The bytes of a way of single steps in the search tree.
--- Paper 01, "The image": "every string that is a proper prefix of a stored one" is a node, though the table's
--- tree keeps none there.
+-- Paper 01, "The image": each proper prefix of a stored string is a node, though the table's tree keeps none
+-- where only one way goes on.
 --   wayIn xs m t       the record that leads to a way by the bits xs whose first node is m, and then to t
 --   stepBytes          a node on the way: it goes on by one side, and the other holds what is above
 --   stalkBytes         all its nodes
+--   PutStalk           the contract of `put_stalk`
 -- Assumes nothing.
 use Prim.Native.Nat.{ℕ, suc, _*_}
 use mathlib.Core.Path.{_≡_}

@@ -1,8 +1,9 @@
 // The image writer: a table's map and an epoch, as the file that ships.
+use audit::Audited;
 use image_data::Runs;
 use prefix::Prefix;
 use records::Record;
-ghost use Prim.Native.Nat.{ℕ, _+_, _-_, _*_, _^_, _≤_};
+ghost use Prim.Native.Nat.{ℕ, _+_, _-_, _*_, _^_, _≤_, max};
 ghost use mathlib.Core.Path.{_≡_};
 ghost use mathlib.Core.Bool.{cond};
 ghost use mathlib.Core.Option.{none};
@@ -10,7 +11,9 @@ ghost use lib.Dec.{ltb};
 ghost use lib.ListN.{length, drop};
 ghost use lib.Seq.{sets};
 ghost use Rattle.prefix.specs.Keys.{stringOf};
+ghost use Rattle.zones.specs.Maps.{Map};
 ghost use Rattle.zones.specs.Tree.{Tree};
+ghost use Rattle.records.specs.Holds.{Holds};
 ghost use Rattle.records.specs.Hanging.{Hangs};
 ghost use Rattle.image.specs.Bytes.{bytesOf};
 ghost use Rattle.image.specs.Image.{size24, nodeBytes};
@@ -18,7 +21,9 @@ ghost use Rattle.image.specs.Tries.{size, grow};
 ghost use Rattle.image_data.specs.Runs.{lengthOf};
 ghost use Rattle.image_write.specs.Parts.{Part, bothEnd};
 ghost use Rattle.image_write.specs.Stalks.{stepBytes, PutStalk};
-ghost use Rattle.image_write.specs.Planting.{Here, Planted, Grows};
+ghost use Rattle.image_write.specs.Planting.{Here, Planted, Grows, Rooted, Stands};
+ghost use Rattle.image_write.specs.Whole.{Planned, lengthBy, Fills, filled};
+ghost use Rattle.image_write.specs.Writing.{WriteImage};
 
 // The answer: the length of the image written, or why none is. ShortOut gives the length needed.
 pub enum Written {
@@ -33,6 +38,82 @@ pub enum Written {
 pub struct Grown {
     pub next: u32,
     pub top: u32,
+}
+
+// What is measured before anything is written: the table's root, the nodes of the image, and the
+// runs of its data section.
+pub struct Plan {
+    pub root: u32,
+    pub nodes: u32,
+    pub runs: Runs,
+}
+
+// Writes the image of the table's map with the epoch, and answers its length. The bytes past it stay,
+// and so do all bytes where there is no image: words that no table has, or too short an output.
+pub fn write(table: &[u32], epoch: u64, out: &mut [u8]) -> Written
+    ensures { λ r. ⌜ WriteImage (now (table .entry)) epoch (now (out .entry)) r (now (out .exit)) ⌝ }
+{
+    let x = audit::audit(table);
+    match x {
+        Audited::BadLength => Written::BadLength,
+        Audited::No => Written::Damaged,
+        Audited::Yes => {
+            let p = plan_of(table);
+            let size = length_of(p, epoch);
+            if out.len() < size {
+                return Written::ShortOut(size);
+            }
+            put_image(table, p, epoch, out);
+            Written::Wrote(size)
+        }
+    }
+}
+
+// ---- the whole
+
+fn plan_of(table: &[u32]) -> Plan
+    requires { ⌜ ((m : Map) × Holds (now table) m) ⌝ }
+    ensures { λ p. ⌜ ((m : Map) → Holds (now (table .entry)) m → Planned (now (table .entry)) m p) ⌝ }
+{
+    let h = records::read_header(table);
+    let root = h.root;
+    let nodes = at_least_one(count_below(table, root, 0));
+    let runs = image_zones::measure(table);
+    Plan { root, nodes, runs }
+}
+
+// The empty string is a node, even where nothing is stored below it.
+fn at_least_one(n: u32) -> u32
+    ensures { λ r. ⌜ r ≡ max 1 n ⌝ }
+{
+    if n == 0 {
+        return 1;
+    }
+    n
+}
+
+// The image's length.
+fn length_of(p: Plan, epoch: u64) -> usize
+    requires { ⌜ lengthOf (p .runs) ≤ 2 ^ 24 ⌝ }
+    ensures { λ r. ⌜ r ≡ lengthBy p epoch ⌝ }
+{
+    let nodes = p.nodes;
+    let numbers = metadata::bytes_in(nodes as u64) + metadata::bytes_in(epoch);
+    6 * (nodes as usize) + image_data::length_of(p.runs) + 170 + numbers
+}
+
+// Writes the image. The data section comes first, since the search tree's records are found in it.
+fn put_image(table: &[u32], p: Plan, epoch: u64, out: &mut [u8])
+    requires { ⌜ Fills (now table) p epoch (now out) ⌝ }
+    ensures { λ _. ⌜ ((f : Fills (now (table .entry)) p epoch (now (out .entry))) → now (out .exit) ≡ filled (f .map) epoch (now (out .entry))) ⌝ }
+{
+    let nodes = p.nodes;
+    let zeros = [0u8; 16];
+    let tree = 6 * (nodes as usize);
+    let tail = image_zones::put_data(table, out, tree + 16);
+    metadata::put(out, tree, &zeros);
+    put_tree(table, p.root, nodes, p.runs, out);
+    metadata::put_tail(out, tail, nodes, epoch);
 }
 
 // ---- how many nodes the image has
@@ -64,6 +145,18 @@ fn both_end(r: Record) -> bool
 }
 
 // ---- the search tree
+
+// Writes all n nodes. Where the top is no node of the tree, it is one of the image, with what is
+// stored there on both sides.
+fn put_tree(table: &[u32], root: u32, n: u32, runs: Runs, out: &mut [u8])
+    requires { ⌜ Rooted (now table) root n runs (now out) ⌝ }
+    ensures { λ _. ⌜ Stands (now (table .entry)) root n runs (now (out .entry)) (now (out .exit)) ⌝ }
+{
+    let x = put_below(table, root, 0, n, 0, n, runs, out);
+    if x.next == 0 {
+        put_fork(out, 0, x.top, x.top);
+    }
+}
 
 // Writes the nodes of the image from a string of a bits down, below which the link l hangs, numbered
 // from `next`. `above` is the record of the longest stored prefix above; n is how many nodes the

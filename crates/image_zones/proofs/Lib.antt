@@ -3,3 +3,4 @@ pub mod InsertLaws
 pub mod BlocksLaws
 pub mod NextLaws
 pub mod UsedLaws
+pub mod PassesLaws

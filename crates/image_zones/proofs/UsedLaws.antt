@@ -31,7 +31,7 @@ or-last true b = refl
 or-last false true = refl
 or-last false false = refl
 
-or-false : (a : Bool) → (a || false) ≡ a
+pub or-false : (a : Bool) → (a || false) ≡ a
 or-false true = refl
 or-false false = refl
 

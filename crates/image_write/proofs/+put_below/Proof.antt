@@ -1,6 +1,6 @@
--- `image_write::put_below` meets its contract: what hangs on a node's sides is written by the same function, then
--- the node's own fork, then the way to it. The measure is how many levels there may be, 130 less the width from
--- which the part takes nodes on.
+-- `image_write::put_below` meets its contract: what hangs on a node's sides is written by the same function,
+-- then the node's own fork, then the way to it. The measure is how many levels there may be, 130 less the
+-- width from which the part takes nodes on.
 -- Assumes nothing.
 use Prim.Native.Nat.{ℕ, _+_, _-_, _/_, _<_}
 use native.Mathlib.Omega.{arith}
