@@ -58,10 +58,13 @@ use Rattle.image_verify.specs.declared.Verified.{Verified}
 use Rattle.image_verify.specs.declared.Verified.the-variants.{Yes, BadImage}
 use Rattle.image_verify.proofs.AcceptedLaws.{verifyOn-yes}
 use Rattle.image_verify.proofs.ImageLaws.{verifyOn-image}
+use Rattle.image_write.specs.Writing as writing
+use Rattle.image_write.specs.declared.Written.{Written}
+use Rattle.image_write.specs.declared.Written.the-variants as written
 use Rattle.answers.specs.First.{OneOf, NoInputStops}
 use Rattle.answers.specs.Second.{ZoneIsRight}
 use Rattle.answers.specs.Third.{WorkIsBounded}
-use Rattle.answers.proofs.ShippedLaws.{isImage-holds}
+use Rattle.answers.proofs.ShippedLaws.{isImage-holds, take-written, left-refused}
 
 -- ---- the numbers of each call's answers
 
@@ -115,6 +118,12 @@ check-numbers audited.Yes = tt
 check-numbers audited.No = tt
 check-numbers audited.BadLength = tt
 
+write-numbers : (r : Written) → OneOf (0 ∷ 1 ∷ 5 ∷ 6 ∷ []) (writing.numberOf r)
+write-numbers (written.Wrote n) = tt
+write-numbers written.BadLength = tt
+write-numbers written.Damaged = tt
+write-numbers (written.ShortOut n) = tt
+
 look-numbers : (r : Looked) → OneOf (0 ∷ 9 ∷ []) (looking.numberOf r)
 look-numbers (looked.Zone z) = tt
 look-numbers looked.NoData = tt
@@ -137,6 +146,7 @@ answer-1 =
       remove = λ ws k bs. remove-numbers (removeOn ws k bs .answer);
       slice = λ ws r b us. slice-numbers (sliceOn ws r b us .answer);
       check = λ ws. check-numbers (auditOn ws);
+      image-write = write-numbers;
       image-look = λ bs k. look-numbers (lookOn bs k);
       image-check = λ bs. verify-numbers (cond (verifyOn bs) Yes BadImage);
       fetch-first = λ ws k bs. fetch-promise ws k bs _ _ refl .refusal;
@@ -151,6 +161,7 @@ answer-1 =
       store-refused = λ ws k z bs. store-promise ws k z bs _ _ _ refl .left;
       remove-refused = λ ws k bs. remove-promise ws k bs _ _ _ refl .left;
       slice-leaves = λ ws r b us n h. slice-promise ws r b us _ _ refl .kept n h .1;
+      image-leaves = left-refused;
     }
 
 -- Is the zone shown the right one? Yes.
@@ -166,9 +177,10 @@ answer-2 =
       image-accepted = verifyOn-yes;
       image-exact = verifyOn-image;
       image-answers = λ bs m epoch h. lookOn-image h;
-      image-ships = λ ws m epoch h words small.
+      image-ships = λ ws m epoch out r after h words small w long.
           let i = isImage-holds ws m epoch h words small in
-          (verifyOn-image (image size24 m epoch) m epoch i, lookOn-image i);
+          let e = take-written ws m epoch out r after h w long in
+          record { accepted = rw e (verifyOn-image (image size24 m epoch) m epoch i); answers = rw e (lookOn-image i) };
       checked = λ ws e. let w = auditOn-yes ws e in (w .0, (w .1, answers-holds ws (w .0) (w .1)));
     }
 

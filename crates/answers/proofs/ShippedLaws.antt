@@ -1,7 +1,8 @@
 -- The laws of what a table ships: the image of its map is an image, so the checker accepts it and the lookup
 -- there is the table's longest match. No contract cites this file.
 -- Assumes nothing.
-use Prim.Native.Nat.{ℕ, _^_, _≤_, _<_}
+use Prim.Native.Nat.{ℕ, suc, _^_, _≤_, _<_}
+use native.Mathlib.Decide.{decLt}
 use native.Mathlib.Omega.{arith}
 use mathlib.Core.Path.{_≡_, refl, sym, ap, _∙_, subst}
 use mathlib.Core.Logic.{inl, inr}
@@ -9,7 +10,8 @@ use mathlib.Core.Bool.{Bool, true, false, cond}
 use mathlib.Core.List.{List, _∷_, _++_, List·Memᴰ, List·Memᴰ·not-nil, List·Memᴰ·append-cases, List·Memᴰ·eq-of-singleton, Memᴰ·map}
 use mathlib.Core.Option.{Option, none, some, Option·some-injective}
 use lib.Dec.{T, leb, ltb, le→leb, lt→ltb}
-use lib.ListN.{length, getD}
+use lib.ListN.{length, getD, take, drop}
+use lib.Seq.{take-at}
 use Rattle.bits.specs.Lists.{all}
 use Rattle.bits.specs.Bits.{Bits}
 use Rattle.bits.specs.Numbers.{odd}
@@ -21,8 +23,16 @@ use Rattle.records.specs.Holds.{Bears, Linked, Holds}
 use Rattle.records.specs.declared.Record.{Record}
 use Rattle.records.proofs.HoldsLaws.{ascending-holds}
 use Rattle.records.proofs.EntriesLaws.{narrow-holds, length-holds}
-use Rattle.image.specs.Image.{size24, image, IsImage}
+use Rattle.image.specs.Image.{size24, image, imageLength, IsImage}
+use Rattle.image.proofs.LengthLaws.{length-image}
 use Rattle.image.proofs.FitsLaws.{fits-table}
+use Rattle.audit.specs.Checking.{auditOn}
+use Rattle.audit.specs.declared.Audited.{Audited}
+use Rattle.audit.specs.declared.Audited.the-variants as audited
+use Rattle.audit.proofs.HoldsLaws.{auditOn-yes}
+use Rattle.audit.proofs.PromiseLaws.{check-promise}
+use Rattle.image_write.specs.Writing.{numberOf, WriteImage}
+use Rattle.image_write.specs.declared.Written.{Written}
 
 -- ---- zone numbers are words
 
@@ -69,3 +79,30 @@ isImage-holds ws m epoch h words small =
       epoch-fits = small;
       bytes-are = refl;
     }
+
+-- ---- what the writer leaves
+
+-- what meets the promise and is long enough starts with the image
+pub take-written : (ws : List ℕ) (m : Map) (epoch : ℕ) (out : List ℕ) (r : Written) (after : List ℕ) → Holds ws m
+    → WriteImage ws epoch out r after → imageLength size24 m epoch ≤ length out
+    → take (imageLength size24 m epoch) after ≡ image size24 m epoch
+take-written ws m epoch out r after h w long =
+    ap (take (imageLength size24 m epoch)) (w .written m h long .1)
+    ∙ take-at (image size24 m epoch) (drop (imageLength size24 m epoch) out) (imageLength size24 m epoch) (length-image size24 m epoch)
+
+-- a refusal leaves the output: of a table of a map the length decides, of other words the check
+module _ (ws : List ℕ) (epoch : ℕ) (out : List ℕ) (r : Written) (after : List ℕ) (w : WriteImage ws epoch out r after) where
+  left-holds : (m : Map) → Holds ws m → (n : ℕ) → numberOf r ≡ suc n → after ≡ out
+  left-holds m h n e = at (decLt (length out) (imageLength size24 m epoch))
+    where
+      at : Dec (length out < imageLength size24 m epoch) → after ≡ out
+      at (yes i) = w .short m h i .1
+      at (no i) = absurd (omega (arith, sym (ap numberOf (w .written m h (omega arith) .0)) ∙ e))
+
+  left-audited : (a : Audited) → auditOn ws ≡ a → (n : ℕ) → numberOf r ≡ suc n → after ≡ out
+  left-audited audited.Yes q n e = let y = auditOn-yes ws q in left-holds (y .0) (y .1) n e
+  left-audited audited.No q n e = w .damaged q .1
+  left-audited audited.BadLength q n e = w .bad-length (check-promise ws audited.BadLength (sym q) .refusal .0 refl) .1
+
+  pub left-refused : (n : ℕ) → numberOf r ≡ suc n → after ≡ out
+  left-refused = left-audited (auditOn ws) refl

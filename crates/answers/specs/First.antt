@@ -37,6 +37,9 @@ use Rattle.image_lookup.specs.Looking.{lookOn}
 use Rattle.image_verify.specs.Verifying as verifying
 use Rattle.image_verify.specs.Verifying.{verifyOn}
 use Rattle.image_verify.specs.declared.Verified.the-variants.{Yes, BadImage}
+use Rattle.image_write.specs.Writing as writing
+use Rattle.image_write.specs.Writing.{WriteImage}
+use Rattle.image_write.specs.declared.Written.{Written}
 
 abbrev pub OneOf : List ℕ → ℕ → Type 0
 OneOf ns n = T (any (eqb n) ns)
@@ -52,6 +55,7 @@ pub record NoInputStops : Type 0 where
   pub slice : (ws : List ℕ) (r : Resume) (b : ℕ) (us : List ℕ)
       → OneOf (0 ∷ 1 ∷ 2 ∷ 4 ∷ 5 ∷ 6 ∷ []) (slicing.numberOf (sliceOn ws r b us .answer))
   pub check : (ws : List ℕ) → OneOf (0 ∷ 1 ∷ []) (checking.numberOf (auditOn ws))
+  pub image-write : (r : Written) → OneOf (0 ∷ 1 ∷ 5 ∷ 6 ∷ []) (writing.numberOf r)
   pub image-look : (bs : List ℕ) (k : Bits) → OneOf (0 ∷ 9 ∷ []) (looking.numberOf (lookOn bs k))
   pub image-check : (bs : List ℕ) → OneOf (0 ∷ 9 ∷ []) (verifying.numberOf (cond (verifyOn bs) Yes BadImage))
   -- ---- "The first that applies, in this order, is given"
@@ -81,3 +85,6 @@ pub record NoInputStops : Type 0 where
       → removeOn ws k bs .words ≡ ws
   pub slice-leaves : (ws : List ℕ) (r : Resume) (b : ℕ) (us : List ℕ) (n : ℕ)
       → numberOfRefused (refusedOf (length ws) r b (length us)) ≡ suc n → sliceOn ws r b us .words ≡ us
+  -- a writer's refusal, by its promise
+  pub image-leaves : (ws : List ℕ) (epoch : ℕ) (out : List ℕ) (r : Written) (after : List ℕ) → WriteImage ws epoch out r after
+      → (n : ℕ) → writing.numberOf r ≡ suc n → after ≡ out

@@ -2,6 +2,7 @@
 -- Paper 00, demand 2: "The answer is the longest stored prefix of the key, and the table behaves as a plain map
 -- from prefixes to zone numbers. .. The checker accepts exactly the images that some list gives, and an accepted
 -- image answers every 128-bit address as that list does."
+--   Ships m bs        the bytes are accepted, and answer as the map m does
 --   ZoneIsRight       the second answer
 -- Assumes nothing.
 use Prim.Native.Nat.{ℕ, _^_, _≤_, _<_}
@@ -11,7 +12,7 @@ use mathlib.Core.List.{List, [], List·Memᴰ}
 use mathlib.Core.Option.{none, some}
 use lib.Dec.{T, ltb}
 use lib.IntN.{ℤ}
-use lib.ListN.{length, getD}
+use lib.ListN.{length, getD, take}
 use Rattle.bits.specs.Lists.{all}
 use Rattle.bits.specs.Bits.{Bits, isPrefix}
 use Rattle.prefix.specs.Keys.{Valid}
@@ -28,9 +29,16 @@ use Rattle.history.specs.Reached.{Reached}
 use Rattle.history.specs.Accepted.{Answers}
 use Rattle.history.specs.Sequences.{Call, tableSays, mapSays}
 use Rattle.history.proofs.SequencesLaws.{ValidKeys}
-use Rattle.image.specs.Image.{size24, image, IsImage}
+use Rattle.image.specs.Image.{size24, imageLength, IsImage}
 use Rattle.image_lookup.specs.Looking.{lookOn, foundOf}
 use Rattle.image_verify.specs.Verifying.{verifyOn}
+use Rattle.image_write.specs.Writing.{WriteImage}
+use Rattle.image_write.specs.declared.Written.{Written}
+
+-- the bytes are accepted, and answer any address as the map m does
+pub record Ships (m : Map) (bs : List ℕ) : Type 0 where
+  pub accepted : verifyOn bs ≡ true
+  pub answers : (k : Bits) → length k ≡ 128 → lookOn bs k ≡ foundOf (longestMatch k m)
 
 pub record ZoneIsRight : Type 0 where
   -- a fix's cell is the paper's 64 bits
@@ -52,7 +60,7 @@ pub record ZoneIsRight : Type 0 where
   -- "an accepted image answers every 128-bit address as that list does"
   pub image-answers : (bs : List ℕ) (m : Map) (epoch : ℕ) → IsImage size24 bs m epoch → (k : Bits) → length k ≡ 128
       → lookOn bs k ≡ foundOf (longestMatch k m)
-  -- the image of a table's map is accepted, and answers as the table does
-  pub image-ships : (ws : List ℕ) (m : Map) (epoch : ℕ) → Holds ws m → ((i : ℕ) → getD ws i 0 < 2 ^ 32) → epoch < 2 ^ 64
-      → (verifyOn (image size24 m epoch) ≡ true)
-      × ((k : Bits) → length k ≡ 128 → lookOn (image size24 m epoch) k ≡ foundOf (longestMatch k m))
+  -- what the writer writes for a table is accepted, and answers as the table does
+  pub image-ships : (ws : List ℕ) (m : Map) (epoch : ℕ) (out : List ℕ) (r : Written) (after : List ℕ) → Holds ws m
+      → ((i : ℕ) → getD ws i 0 < 2 ^ 32) → epoch < 2 ^ 64 → WriteImage ws epoch out r after → imageLength size24 m epoch ≤ length out
+      → Ships m (take (imageLength size24 m epoch) after)
