@@ -1,0 +1,27 @@
+-- `nalfipode::images::looked` meets its contract: each arm has its answer's number and values.
+-- Assumes nothing.
+use borrow.Author.Needs.{needs}
+use Rattle.image_lookup.specs.Looking.{numberOf, valuesOf}
+use Rattle.nalfipode.proofs.ValuesLaws.{told}
+use Rattle.nalfipode.proofs.images.looked.Statement.{statement}
+use Rattle.nalfipode.proofs.images.looked.Tie as tie
+
+returns : tie.Need-returns
+returns c = told numberOf valuesOf (c .before .x .given .1)
+
+returns-2 : tie.Need-returns-2
+returns-2 c = told numberOf valuesOf (c .enum-told .given .1)
+
+returns-3 : tie.Need-returns-3
+returns-3 c = told numberOf valuesOf (c .enum-told2 .given .1)
+
+pub looked-spec : {M : Type 1} → statement M
+looked-spec =
+    tie.close
+    (tie.spec
+    (λ c. search needs)
+    (λ c. search needs)
+    (λ c. search needs)
+    returns
+    returns-2
+    returns-3)
