@@ -1,0 +1,22 @@
+//! Numbered lines of a text that people write: what follows a `#` is a comment, and blank lines say nothing.
+
+/// What a line says, without its comment and the blanks around; none if that is nothing.
+pub fn said(line: &[u8]) -> Result<Option<&str>, String> {
+    let text = std::str::from_utf8(line).map_err(|_| "not plain text (UTF-8)".to_string())?;
+    let plain = text.split('#').next().unwrap_or("").trim();
+    Ok((!plain.is_empty()).then_some(plain))
+}
+
+#[cfg(test)]
+mod tests {
+    use super::*;
+
+    #[test]
+    fn comments_and_blanks() {
+        assert_eq!(said(b""), Ok(None));
+        assert_eq!(said(b" \t\r\n"), Ok(None));
+        assert_eq!(said(b"# all of it"), Ok(None));
+        assert_eq!(said(b" 1 2 # some of it\r\n"), Ok(Some("1 2")));
+        assert_eq!(said(b"\xFF"), Err("not plain text (UTF-8)".to_string()));
+    }
+}
