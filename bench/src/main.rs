@@ -1,0 +1,197 @@
+//! Times each call of the table beside peers on the same keys.
+//!
+//!     bench                                 a table of nanoseconds per call, for each kind and size
+//!     bench count PEER CALL KIND SIZE N     N calls and nothing else after the set is made, for an instruction
+//!                                           counter: the difference of two Ns is what the calls take
+
+mod data;
+mod ours;
+mod peer;
+mod plain;
+mod tree;
+
+use data::{Data, Kind};
+use ours::Ours;
+use peer::Peer;
+use plain::{Map, Sorted};
+use std::hint::black_box;
+use std::time::Instant;
+use tree::Tree;
+
+const CALLS: [&str; 6] = ["match", "fetch", "store", "remove", "slice", "check"];
+const SIZES: [usize; 4] = [1_000, 8_000, 20_000, 30_000];
+const SLICE: usize = 64;
+const ROUNDS: usize = 25;
+
+fn filled<P: Peer>(data: &Data) -> P {
+    let mut peer = P::new(data.stored.len() + data.others.len());
+    let mut trail = [0; 129];
+    for (zone, key) in data.stored.iter().enumerate() {
+        assert_eq!(peer.store(*key, zone as u32, &mut trail), None);
+    }
+    peer
+}
+
+/// Nanoseconds per call of each kind, the least of some rounds; none where the peer has no such call.
+fn timed<P: Peer>(data: &Data) -> Vec<Option<f64>> {
+    let mut peer = filled::<P>(data);
+    let mut least = vec![f64::MAX; CALLS.len()];
+    for _ in 0..ROUNDS {
+        for (i, what) in CALLS.iter().enumerate() {
+            if *what == "remove" {
+                continue;
+            }
+            let (first, second) = round(&mut peer, data, what);
+            least[i] = least[i].min(first);
+            if *what == "store" {
+                least[i + 1] = least[i + 1].min(second);
+            }
+        }
+    }
+    least.iter().map(|t| if *t == f64::MAX { None } else { Some(*t) }).collect()
+}
+
+fn per(start: Instant, calls: usize) -> f64 {
+    start.elapsed().as_nanos() as f64 / calls as f64
+}
+
+/// One round of calls; a round of stores is followed by one of removes.
+fn round<P: Peer>(peer: &mut P, data: &Data, what: &str) -> (f64, f64) {
+    let mut trail = [0; 129];
+    let mut out = [0; 6 * SLICE];
+    let start = Instant::now();
+    match what {
+        "match" => {
+            for k in &data.questions {
+                black_box(peer.longest(black_box(*k), &mut trail));
+            }
+            (per(start, data.questions.len()), 0.0)
+        }
+        "fetch" => {
+            for k in &data.stored {
+                black_box(peer.fetch(black_box(*k), &mut trail));
+            }
+            (per(start, data.stored.len()), 0.0)
+        }
+        "store" => {
+            for k in &data.others {
+                black_box(peer.store(black_box(*k), 1, &mut trail));
+            }
+            let stored = per(start, data.others.len());
+            let start = Instant::now();
+            for k in &data.others {
+                black_box(peer.remove(black_box(*k), &mut trail));
+            }
+            (stored, per(start, data.others.len()))
+        }
+        "slice" => {
+            for k in &data.others {
+                black_box(peer.slice(Some(black_box(*k)), &mut out));
+            }
+            (per(start, data.others.len()), 0.0)
+        }
+        "check" => match black_box(peer.check()) {
+            Some(sound) => {
+                assert!(sound);
+                (per(start, 1), 0.0)
+            }
+            None => (f64::MAX, 0.0),
+        },
+        _ => unreachable!("{}", what),
+    }
+}
+
+/// Every peer must answer as the first one does. Gives the mean number of nodes on a question's path.
+fn agree(data: &Data) -> f64 {
+    let (a, b) = (filled::<Ours>(data), filled::<Tree>(data));
+    let (c, d) = (filled::<Map>(data), filled::<Sorted>(data));
+    let mut first = [0; 129];
+    let mut second = [0; 129];
+    for k in &data.questions {
+        let answer = a.longest(*k, &mut first);
+        assert_eq!(answer, b.longest(*k, &mut second));
+        assert_eq!(first, second, "the trails of {:?}", k);
+        assert_eq!(answer, c.longest(*k, &mut second));
+        assert_eq!(answer, d.longest(*k, &mut second));
+    }
+    let mut outs = [[0; 6 * SLICE]; 4];
+    for k in &data.others {
+        let given = a.slice(Some(*k), &mut outs[0]);
+        assert_eq!(given, b.slice(Some(*k), &mut outs[1]));
+        assert_eq!(given, c.slice(Some(*k), &mut outs[2]));
+        assert_eq!(given, d.slice(Some(*k), &mut outs[3]));
+        assert!(outs.iter().all(|out| out[..6 * given] == outs[0][..6 * given]));
+    }
+    let nodes: u32 = data.questions.iter().map(|k| a.nodes(*k)).sum();
+    f64::from(nodes) / data.questions.len() as f64
+}
+
+fn shown(name: &str, times: &[Option<f64>], ours: &[Option<f64>]) {
+    print!("| {} |", name);
+    for (time, our) in times.iter().zip(ours) {
+        match (time, our) {
+            (Some(t), Some(o)) => print!(" {:.0} ({:.2}) |", t, t / o),
+            _ => print!(" - |"),
+        }
+    }
+    println!();
+}
+
+fn table() {
+    for kind in [Kind::Cells, Kind::Routes] {
+        for size in SIZES {
+            let data = Data::new(kind, size);
+            let nodes = agree(&data);
+            println!("\n{} {}, {:.1} nodes on a path; ns per call (ratio)\n", size, kind.name(), nodes);
+            println!("| | {} |", CALLS.join(" | "));
+            println!("|---|{}", "---|".repeat(CALLS.len()));
+            let ours = timed::<Ours>(&data);
+            shown(Ours::NAME, &ours, &ours);
+            shown(Tree::NAME, &timed::<Tree>(&data), &ours);
+            shown(Map::NAME, &timed::<Map>(&data), &ours);
+            shown(Sorted::NAME, &timed::<Sorted>(&data), &ours);
+        }
+    }
+}
+
+/// N calls of one kind: stores of keys that are not in the set, removes of keys that are; so N is at most 1,000
+/// for a store, and the set's size for a remove.
+fn count<P: Peer>(what: &str, data: &Data, n: usize) {
+    let mut peer = filled::<P>(data);
+    let mut trail = [0; 129];
+    let mut out = [0; 6 * SLICE];
+    for i in 0..n {
+        let other = data.others[i % data.others.len()];
+        match what {
+            "match" => drop(black_box(peer.longest(data.questions[i % data.questions.len()], &mut trail))),
+            "fetch" => drop(black_box(peer.fetch(data.stored[i % data.stored.len()], &mut trail))),
+            "store" => drop(black_box(peer.store(other, 1, &mut trail))),
+            "remove" => drop(black_box(peer.remove(data.stored[i % data.stored.len()], &mut trail))),
+            "slice" => drop(black_box(peer.slice(Some(other), &mut out))),
+            "check" => drop(black_box(peer.check())),
+            _ => panic!("no call {}", what),
+        }
+    }
+}
+
+fn main() {
+    let words: Vec<String> = std::env::args().skip(1).collect();
+    if words.is_empty() {
+        return table();
+    }
+    let words: Vec<&str> = words.iter().map(|word| word.as_str()).collect();
+    match words[..] {
+        ["count", peer, what, kind, size, n] => {
+            let data = Data::new(Kind::of(kind), size.parse().expect("a size"));
+            let n = n.parse().expect("a number of calls");
+            match peer {
+                "ours" => count::<Ours>(what, &data, n),
+                "tree" => count::<Tree>(what, &data, n),
+                "map" => count::<Map>(what, &data, n),
+                "sorted" => count::<Sorted>(what, &data, n),
+                _ => panic!("no peer {}", peer),
+            }
+        }
+        _ => panic!("count PEER CALL KIND SIZE N"),
+    }
+}

@@ -1,0 +1,33 @@
+//! What each peer answers. Peers that keep no tree write no trail.
+use crate::data::Key;
+
+pub trait Peer {
+    const NAME: &'static str;
+
+    /// Empty, with room for so many prefixes.
+    fn new(size: usize) -> Self;
+
+    /// The old number, if there was one.
+    fn store(&mut self, k: Key, zone: u32, trail: &mut [u8]) -> Option<u32>;
+
+    /// The number taken out.
+    fn remove(&mut self, k: Key, trail: &mut [u8]) -> Option<u32>;
+
+    fn fetch(&self, k: Key, trail: &mut [u8]) -> Option<u32>;
+
+    /// The width and the number of the longest stored prefix.
+    fn longest(&self, k: Key, trail: &mut [u8]) -> Option<(u32, u32)>;
+
+    /// How many were given of the first `out.len() / 6` prefixes after the key.
+    fn slice(&self, resume: Option<Key>, out: &mut [u32]) -> usize;
+
+    /// The whole structure is sound, where the peer has such a check.
+    fn check(&self) -> Option<bool>;
+}
+
+/// A listed prefix in its six words.
+pub fn put(out: &mut [u32], i: usize, k: Key, zone: u32) {
+    out[6 * i..6 * i + 4].copy_from_slice(&k.words());
+    out[6 * i + 4] = k.width;
+    out[6 * i + 5] = zone;
+}
