@@ -1,6 +1,5 @@
 -- The three answers to the insurer: `answer-1`, `answer-2`, `answer-3`. docs/ANSWERS.md has their plain words.
 -- Assumes nothing.
-use Prim.Native.Nat.{ℕ}
 use mathlib.Core.Path.{refl}
 use mathlib.Core.Bool.{cond}
 use mathlib.Core.List.{[], _∷_}

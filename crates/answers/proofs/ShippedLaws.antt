@@ -7,7 +7,7 @@ use native.Mathlib.Omega.{arith}
 use mathlib.Core.Path.{_≡_, refl, sym, ap, _∙_, subst}
 use mathlib.Core.Logic.{inl, inr}
 use mathlib.Core.Bool.{Bool, true, false, cond}
-use mathlib.Core.List.{List, _∷_, _++_, List·Memᴰ, List·Memᴰ·not-nil, List·Memᴰ·append-cases, List·Memᴰ·eq-of-singleton, Memᴰ·map}
+use mathlib.Core.List.{List, List·Memᴰ, List·Memᴰ·not-nil, List·Memᴰ·append-cases, List·Memᴰ·eq-of-singleton, Memᴰ·map}
 use mathlib.Core.Option.{Option, none, some, Option·some-injective}
 use lib.Dec.{T, leb, ltb, le→leb, lt→ltb}
 use lib.ListN.{length, getD, take, drop}
@@ -18,9 +18,8 @@ use Rattle.bits.specs.Numbers.{odd}
 use Rattle.bits.proofs.ListsLaws.{mem-all}
 use Rattle.zones.specs.Maps.{Entry, Map, keys}
 use Rattle.zones.specs.Tree.{Tree, tip, node, own, entries}
-use Rattle.records.specs.Layout.{place, recordAt, headerAt, zoneOf}
+use Rattle.records.specs.Layout.{recordAt, zoneOf}
 use Rattle.records.specs.Holds.{Bears, Linked, Holds}
-use Rattle.records.specs.declared.Record.{Record}
 use Rattle.records.proofs.HoldsLaws.{ascending-holds}
 use Rattle.records.proofs.EntriesLaws.{narrow-holds, length-holds}
 use Rattle.image.specs.Image.{size24, image, imageLength, IsImage}
@@ -40,9 +39,9 @@ some-zone : (b : Bool) (y z : ℕ) → cond b (some y) none ≡ some z → y ≡
 some-zone true y z e = Option·some-injective y z e
 some-zone false y z e = cc
 
-mem-own : (e : Entry) (s : Bits) (v : Option ℕ) → List·Memᴰ e (own s v) → v ≡ some (e .zone)
-mem-own e s none i = absurd (List·Memᴰ·not-nil i)
-mem-own e s (some z) i = ap (λ (x : Entry). some (x .zone)) (sym (List·Memᴰ·eq-of-singleton i))
+zone-own : (e : Entry) (s : Bits) (v : Option ℕ) → List·Memᴰ e (own s v) → v ≡ some (e .zone)
+zone-own e s none i = absurd (List·Memᴰ·not-nil i)
+zone-own e s (some z) i = ap (λ (x : Entry). some (x .zone)) (sym (List·Memᴰ·eq-of-singleton i))
 
 module _ (ws : List ℕ) (words : (i : ℕ) → getD ws i 0 < 2 ^ 32) where
   zone-bears : (a : ℕ) (s : Bits) (v : Option ℕ) (z : ℕ) → Bears (recordAt ws a) s v → v ≡ some z → z < 2 ^ 32
@@ -54,7 +53,7 @@ module _ (ws : List ℕ) (words : (i : ℕ) → getD ws i 0 < 2 ^ 32) where
   zone-entries l tip h e i = absurd (List·Memᴰ·not-nil i)
   zone-entries l (node a s v x y) h e i =
       elim (List·Memᴰ·append-cases (own s v) i) [
-        | inl j ↦ zone-bears a s v (e .zone) (h .1) (mem-own e s v j)
+        | inl j ↦ zone-bears a s v (e .zone) (h .1) (zone-own e s v j)
         | inr j ↦ elim (List·Memᴰ·append-cases (entries x) j) [
           | inl k ↦ zone-entries (recordAt ws a .left) x (h .2) e k
           | inr k ↦ zone-entries (recordAt ws a .right) y (h .3) e k

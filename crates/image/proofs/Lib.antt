@@ -1,6 +1,7 @@
 pub mod LengthLaws
 pub mod BytesLaws
 pub mod ZonesLaws
+pub mod AscendingLaws
 pub mod FitsLaws
 pub mod TrieLaws
 pub mod PreorderLaws

@@ -14,7 +14,7 @@ use lib.ListN.{length, length-append}
 use Rattle.bits.specs.Bits.{Bits, isPrefix, equal}
 use Rattle.bits.proofs.BitsLaws.{isPrefix-refl, isPrefix-trans, isPrefix-append, equal-true, order-refl, one-side}
 use Rattle.zones.specs.Maps.{Entry, Map, keys}
-use Rattle.image.specs.Image.{Side, toNode, noData, toZone, leafOf, nodeOr, numberIn, side, Fork, forksIn, forksOf}
+use Rattle.image.specs.Image.{Side, toNode, leafOf, nodeOr, numberIn, side, Fork, forksIn, forksOf}
 use Rattle.image.specs.Tries.{Trie, leaf, fork, size, sideOf, ref, refs}
 use Rattle.image.proofs.TrieLaws.{forks, trieAt, isFork, zoneAt, trieOf, Within, imageNodes-forks}
 

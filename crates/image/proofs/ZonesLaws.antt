@@ -1,13 +1,12 @@
 -- The laws of the data section: the zone numbers ascend and are those that some side uses, and the entry of
 -- each starts at its offset. No contract cites this file.
---   ascendingNumbers zs    each number is below all that follow it, so that it is there once
 --   uses z s, usedBy z f   the side s, or a side of the fork f, is the zone number z
 -- Assumes nothing.
 use Prim.Native.Nat.{ℕ, _+_, _<_, _≤_}
 use native.Mathlib.Nat.{zero-add, add-assoc}
 use native.Mathlib.Omega.{arith}
 use mathlib.Core.Path.{_≡_, refl, sym, ap, _∙_}
-use mathlib.Core.Bool.{Bool, true, false, cond, _&&_, _||_, or-self-left}
+use mathlib.Core.Bool.{Bool, true, false, cond, _||_, or-self-left}
 use mathlib.Core.List.{List, [], _∷_, _++_, List·Memᴰ, List·Memᴰ·head, List·Memᴰ·tail}
 use lib.Dec.{T, ltb, eqb, ltb→lt, lt→ltb, eqb→eq, eqb-refl}
 use lib.ListN.{length, take, drop, length-append, length-drop}
@@ -16,11 +15,7 @@ use borrow.Author.Tests.{ltb-false, eqb-false, eqb-true}
 use Rattle.bits.specs.Lists.{any, all}
 use Rattle.bits.proofs.ListsLaws.{and-left, and-right, and-both, all-imp, any-mem, mem-any, or-assoc, or-swap, T-true, true-T}
 use Rattle.image.specs.Bytes.{uint32}
-use Rattle.image.specs.Image.{Side, toNode, noData, toZone, Fork, add, addAt, addSide, zonesOf, dataOf, offset}
-
-abbrev pub ascendingNumbers : List ℕ → Bool
-ascendingNumbers [] = true
-ascendingNumbers (z ∷ zs) = all (ltb z) zs && ascendingNumbers zs
+use Rattle.image.specs.Image.{Side, toNode, noData, toZone, Fork, add, addAt, addSide, zonesOf, ascendingNumbers, dataOf, offset}
 
 abbrev pub uses : ℕ → Side → Bool
 uses z (toNode i) = false

@@ -6,7 +6,7 @@
 --   text t, uint16 v, uint32 v, uint64 v   a text and numbers with their control bytes
 -- Assumes nothing.
 use Prim.Native.Nat.{ℕ, zero, suc, _+_, _/_, _%_, _^_}
-use Prim.Native.Char.{Char, code}
+use Prim.Native.Char.{code}
 use Prim.Native.String as S
 use Prim.Native.String.{String}
 use mathlib.Core.Bool.{cond}

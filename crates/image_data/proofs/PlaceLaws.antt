@@ -12,8 +12,7 @@ use lib.Dec.{T, eqb, eqb-refl}
 use lib.ListN.{length, getD}
 use Rattle.bits.proofs.ListsLaws.{mem-keep}
 use Rattle.image.specs.Bytes.{short}
-use Rattle.image.specs.Image.{offset}
-use Rattle.image.proofs.ZonesLaws.{ascendingNumbers}
+use Rattle.image.specs.Image.{offset, ascendingNumbers}
 use Rattle.metadata.specs.Frames.{numberAt}
 use Rattle.image_data.specs.Runs.{runOf, countOf, runsOf, lengthOf, startOf, shareOf, DataAt, RunAt, Placed, Offset}
 use Rattle.image_data.specs.declared.Runs.{Runs}

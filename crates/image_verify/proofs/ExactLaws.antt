@@ -6,17 +6,18 @@ use native.Mathlib.Decide.{ℕ-discrete}
 use native.Mathlib.Omega.{arith}
 use mathlib.Core.Path.{_≡_, refl, sym, _∙_, subst}
 use mathlib.Core.Bool.{Bool, true, false, cond}
-use mathlib.Core.List.{List, [], _∷_, List·Memᴰ, List·Memᴰ·head, List·Memᴰ·tail, List·Memᴰ·not-nil}
+use mathlib.Core.List.{List, _∷_, List·Memᴰ, List·Memᴰ·head, List·Memᴰ·tail}
 use mathlib.Core.Option.{some}
-use lib.Dec.{T, ltb, eqb, ltb→lt, eqb→eq}
+use lib.Dec.{T, eqb, eqb→eq}
 use lib.ListN.{length}
 use borrow.Author.Tests.{eqb-false, eqb-true}
-use Rattle.bits.specs.Lists.{any, all}
-use Rattle.bits.proofs.ListsLaws.{and-left, and-right, test-ext, any-mem, mem-any, all-mem}
+use Rattle.bits.specs.Lists.{any}
+use Rattle.bits.proofs.ListsLaws.{and-left, and-right, test-ext, any-mem, mem-any}
 use Rattle.image.specs.Bytes.{uint32}
 use Rattle.image.specs.Image.{Fork, zonesOf, offset}
 use Rattle.image.specs.Tries.{Trie, leaf, fork, size, ref, refs}
-use Rattle.image.proofs.ZonesLaws.{ascendingNumbers, ascending-zonesOf, uses, usedBy, mem-zonesOf, zonesOf-mem, one-byte, offset-lt}
+use Rattle.image.proofs.ZonesLaws.{ascending-zonesOf, uses, usedBy, mem-zonesOf, zonesOf-mem, one-byte, offset-lt}
+use Rattle.image.proofs.AscendingLaws.{ascending-ext}
 use Rattle.image_verify.specs.Verifying.{recordNo, usesOn, startsAt, agree, exactFrom, exactOn}
 use Rattle.image_verify.proofs.StandsLaws.{Stands, Zoned}
 use Rattle.image_verify.proofs.UsesLaws.{Place, at-left, at-right, below-left, below-right, place, record-usesOn, usesOn-true, used-usesOn}
@@ -57,30 +58,6 @@ module _ (bs : List ℕ) (n end : ℕ) where
       ]
 
 -- ---- ascending numbers
-
-least : (y : ℕ) (ys : List ℕ) (z : ℕ) → T (ascendingNumbers (y ∷ ys)) → List·Memᴰ z ys → y < z
-least y ys z h i = ltb→lt y z (all-mem (ltb y) ys (and-left (all (ltb y) ys) (ascendingNumbers ys) h) z i)
-
-least-le : (y : ℕ) (ys : List ℕ) (z : ℕ) → T (ascendingNumbers (y ∷ ys)) → List·Memᴰ z (y ∷ ys) → y ≤ z
-least-le y ys z h (List·Memᴰ·head e) = omega arith
-least-le y ys z h (List·Memᴰ·tail i) = omega (arith, least y ys z h i)
-
-later : (y : ℕ) (ys : List ℕ) (z : ℕ) → y < z → List·Memᴰ z (y ∷ ys) → List·Memᴰ z ys
-later y ys z l (List·Memᴰ·head e) = absurd (omega arith)
-later y ys z l (List·Memᴰ·tail i) = i
-
--- two ascending lists with the same members are the same list
-pub ascending-ext : (xs ys : List ℕ) → T (ascendingNumbers xs) → T (ascendingNumbers ys) → ((z : ℕ) → List·Memᴰ z xs → List·Memᴰ z ys)
-    → ((z : ℕ) → List·Memᴰ z ys → List·Memᴰ z xs) → xs ≡ ys
-ascending-ext [] [] h k f g = refl
-ascending-ext [] (y ∷ ys) h k f g = absurd (List·Memᴰ·not-nil (g y (List·Memᴰ·head refl)))
-ascending-ext (x ∷ xs) [] h k f g = absurd (List·Memᴰ·not-nil (f x (List·Memᴰ·head refl)))
-ascending-ext (x ∷ xs) (y ∷ ys) h k f g =
-    let e : x ≡ y = omega (arith, least-le y ys x k (f x (List·Memᴰ·head refl)), least-le x xs y h (g y (List·Memᴰ·head refl))) in
-    let t = ascending-ext xs ys (and-right (all (ltb x) xs) (ascendingNumbers xs) h) (and-right (all (ltb y) ys) (ascendingNumbers ys) k)
-    (λ z i. later y ys z (omega (arith, least x xs z h i)) (f z (List·Memᴰ·tail i)))
-    (λ z i. later x xs z (omega (arith, least y ys z k i)) (g z (List·Memᴰ·tail i))) in
-    cc
 
 -- ---- offset
 

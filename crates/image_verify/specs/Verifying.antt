@@ -12,10 +12,10 @@
 --   numberOf, valuesOf      the paper's number of an answer, 0 where accepted, and its values
 --   VerifyImage             the contract of `verify`
 -- Assumes nothing.
-use Prim.Native.Nat.{ℕ, zero, suc, _+_, _-_, _*_, _^_}
+use Prim.Native.Nat.{ℕ, zero, suc, _+_, _-_, _*_}
 use mathlib.Core.Path.{_≡_}
 use mathlib.Core.Bool.{Bool, true, false, _&&_, _||_, not, cond}
-use mathlib.Core.List.{List, [], _∷_}
+use mathlib.Core.List.{List, []}
 use lib.Dec.{T, leb, ltb, eqb}
 use lib.ListN.{length, getD}
 use Rattle.bits.specs.Lists.{all}

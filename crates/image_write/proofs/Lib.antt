@@ -8,3 +8,4 @@ pub mod TableLaws
 pub mod WholeLaws
 pub mod ImageLaws
 pub mod WriteLaws
+pub mod SingleLaws

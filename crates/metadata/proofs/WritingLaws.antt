@@ -2,7 +2,7 @@
 -- the loops, and for each way out. No contract cites this file.
 -- Assumes nothing.
 use Prim.Native.Nat.{ℕ, zero, suc, _+_, _-_, _*_, _/_, _%_, _^_, _≤_, _<_}
-use native.Mathlib.Nat.{add-zero, add-suc, suc-add, add-assoc, mul-assoc, add-mul, pow-suc, pow-le-pow-right, lt-of-lt-of-le}
+use native.Mathlib.Nat.{add-zero, add-suc, add-assoc, mul-assoc, add-mul, pow-suc, pow-le-pow-right, lt-of-lt-of-le}
 use native.Mathlib.Numerals.{add-one}
 use native.Mathlib.Omega.{arith}
 use mathlib.Core.Path.{_≡_, refl, sym, ap, subst, _∙_}
@@ -14,16 +14,13 @@ use lib.Seq.{sets, drop-cons, drop-length, take-suc, getD-drop}
 use Rattle.image.specs.Bytes.{bytesOf, short, uint32, uint64}
 use Rattle.image.proofs.LengthLaws.{length-bytesOf}
 use Rattle.image.proofs.BytesLaws.{short-lowest, pow-bytes}
+use Rattle.image.proofs.SetsLaws.{sets-append}
 use Rattle.metadata.specs.Frames.{valueOf, numberAt}
 use Rattle.metadata.specs.Writing.{Put, NumberAt}
 
 -- ---- sets
 
 module _ {A : Type 0} where
-  pub sets-append : (l : List A) (i : ℕ) (vs ws : List A) → sets (sets l i vs) (i + length vs) ws ≡ sets l i (vs ++ ws)
-  sets-append l i [] ws = rw (add-zero i)
-  sets-append l i (v ∷ vs) ws = rw (add-suc i (length vs), ← suc-add i (length vs)) (sets-append (set l i v) (suc i) vs ws)
-
   -- one more element of s
   pub sets-drop : (out : List A) (at i : ℕ) (s : List A) (d : A) → i < length s
       → sets (set out (at + i) (getD s i d)) (at + (i + 1)) (drop (i + 1) s) ≡ sets out (at + i) (drop i s)
@@ -35,7 +32,7 @@ module _ {old mid new vs ws : List ℕ} {at r q : ℕ} where
   pub put-append : Put old at vs mid r → Put mid r ws new q → Put old at (vs ++ ws) new q
   put-append h k =
       record {
-        bytes = k .bytes ∙ rw (h .bytes, h .end) (sets-append old at vs ws);
+        bytes = k .bytes ∙ rw (h .bytes, h .end) (sym (sets-append old at vs ws));
         end = omega (arith, h .end, k .end, length-append vs ws);
         room = k .room ∙ h .room;
       }

@@ -3,5 +3,4 @@ mod ValuesLaws
 mod CellsLaws
 mod CountsLaws
 mod SlicesLaws
-mod ImagesLaws
 pub mod SinglesLaws

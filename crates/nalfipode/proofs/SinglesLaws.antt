@@ -31,7 +31,7 @@ use Rattle.nalfipode.specs.Reads.{FetchOut, LongestMatchOut}
 use Rattle.nalfipode.specs.Slices.{SliceOut}
 use Rattle.nalfipode.specs.Checks.{AuditOut}
 use Rattle.nalfipode.specs.Images.{WriteOut, VerifyOut, LookOut}
-use Rattle.nalfipode.proofs.ImagesLaws.{write-single}
+use Rattle.image_write.proofs.SingleLaws.{write-single}
 
 -- a number or a list of values that two answers give, where these are equal
 alike : {A B : Type 0} (f : A → B) {x y : A} {a b : B} → a ≡ f x → b ≡ f y → x ≡ y → a ≡ b

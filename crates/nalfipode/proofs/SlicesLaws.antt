@@ -3,7 +3,7 @@
 use Prim.Native.Nat.{ℕ}
 use mathlib.Core.Path.{_≡_, refl, sym, ap, _∙_}
 use mathlib.Core.Bool.{Bool, true, false}
-use mathlib.Core.List.{List, [], _∷_}
+use mathlib.Core.List.{[], _∷_}
 use mir.Val.{boolByte}
 use Rattle.listing.specs.Slicing.{numberOf, valuesOf}
 use Rattle.listing.specs.declared.Sliced.{Sliced}

@@ -2,25 +2,22 @@
 -- Assumes nothing.
 use Prim.Native.Nat.{ℕ, _≤_}
 use native.Mathlib.Omega.{arith}
-use mathlib.Core.Path.{_≡_, ap}
+use mathlib.Core.Path.{ap}
 use mathlib.Core.Logic.{inl, inr}
-use mathlib.Core.List.{List, _++_, List·Memᴰ, List·Memᴰ·not-nil, List·Memᴰ·append-cases, List·Memᴰ·eq-of-singleton, Memᴰ·of-map}
+use mathlib.Core.List.{List, _++_, List·Memᴰ, List·Memᴰ·not-nil, List·Memᴰ·append-cases, Memᴰ·of-map}
 use mathlib.Core.Option.{Option, none, some}
 use lib.ListN.{length, length-append}
 use Rattle.bits.specs.Bits.{Bits}
 use Rattle.prefix.proofs.KeysLaws.{length-stringOf}
 use Rattle.zones.specs.Maps.{Entry, Map, keys}
 use Rattle.zones.specs.Tree.{Tree, tip, node, own, entries}
+use Rattle.zones.proofs.TreeLaws.{mem-own}
 use Rattle.records.specs.Layout.{keyOf}
 use Rattle.records.specs.Holds.{Memory, labels, Bears, Linked, Holds}
 use Rattle.records.specs.declared.Record.{Record}
 use Rattle.records.proofs.OnceLaws.{length-once}
 
 -- ---- entries
-
-mem-own : (e : Entry) (s : Bits) (v : Option ℕ) → List·Memᴰ e (own s v) → e .key ≡ s
-mem-own e s none i = absurd (List·Memᴰ·not-nil i)
-mem-own e s (some z) i = ap (λ (x : Entry). x .key) (List·Memᴰ·eq-of-singleton i)
 
 narrow-bears : (r : Record) (s : Bits) (v : Option ℕ) → Bears r s v → length s ≤ 128
 narrow-bears r s v b = omega (arith, ap length (b .string), length-stringOf (keyOf r) (b .valid .narrow), b .valid .narrow)
@@ -29,7 +26,7 @@ narrow-entries : (mem : Memory) (l : ℕ) (t : Tree ℕ) → Linked mem l t → 
 narrow-entries mem l tip h e i = absurd (List·Memᴰ·not-nil i)
 narrow-entries mem l (node a s v x y) h e i =
     elim (List·Memᴰ·append-cases (own s v) i) [
-      | inl j ↦ rw (mem-own e s v j) (narrow-bears (mem a) s v (h .1))
+      | inl j ↦ rw (mem-own s v e j) (narrow-bears (mem a) s v (h .1))
       | inr j ↦ elim (List·Memᴰ·append-cases (entries x) j) [
         | inl k ↦ narrow-entries mem (mem a .left) x (h .2) e k
         | inr k ↦ narrow-entries mem (mem a .right) y (h .3) e k

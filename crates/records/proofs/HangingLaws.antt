@@ -1,7 +1,7 @@
 -- The laws of a part of a table's tree: a whole table hangs from its root, and a part is a node with two parts
 -- or nothing. No contract cites this file.
 -- Assumes nothing.
-use Prim.Native.Nat.{ℕ, _+_, _≤_}
+use Prim.Native.Nat.{ℕ, _+_}
 use native.Mathlib.Omega.{arith}
 use mathlib.Core.Path.{_≡_, refl, sym, ap, _∙_, subst}
 use mathlib.Core.Bool.{Bool, true, false}
