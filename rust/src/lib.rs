@@ -1,6 +1,7 @@
 //! The zone table of a handheld golf rangefinder, for Rust: a map from prefixes of at most 128 bits to zone
 //! numbers, in memory that the caller lends. The work is done by a library written in Rattle and proved whole;
-//! this crate gives it Rust's types. Nothing is allocated, and no call panics.
+//! this crate gives it Rust's types. Nothing is allocated, and no call panics. [`Table::image_write`] ships what is
+//! stored as an image, which [`image_verify`] checks and [`image_look`] reads.
 //!
 //! ```
 //! use nalfipode::{Prefix, Table, Zone, TRAIL_BYTES};

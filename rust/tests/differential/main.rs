@@ -7,6 +7,7 @@
 mod brute;
 mod cells;
 mod damage;
+mod images;
 mod keys;
 mod lent;
 mod listings;
