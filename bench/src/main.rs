@@ -3,8 +3,11 @@
 //!     bench                                 a table of nanoseconds per call, for each kind and size
 //!     bench count PEER CALL KIND SIZE N     N calls and nothing else after the set is made, for an instruction
 //!                                           counter: the difference of two Ns is what the calls take
+//!     bench images                          the image calls, for each kind and size
+//!     bench image KIND SIZE FOLDER          an image and questions for bench/reader.c
 
 mod data;
+mod images;
 mod ours;
 mod peer;
 mod plain;
@@ -192,6 +195,8 @@ fn main() {
                 _ => panic!("no peer {}", peer),
             }
         }
-        _ => panic!("count PEER CALL KIND SIZE N"),
+        ["images"] => images::table(),
+        ["image", kind, size, folder] => images::files(Kind::of(kind), size.parse().expect("a size"), folder),
+        _ => panic!("count PEER CALL KIND SIZE N, images, or image KIND SIZE FOLDER"),
     }
 }

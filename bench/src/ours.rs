@@ -8,6 +8,10 @@ pub struct Ours {
 }
 
 impl Ours {
+    pub fn words(&self) -> &[u32] {
+        &self.words
+    }
+
     /// How many nodes the path of a key has.
     pub fn nodes(&self, k: Key) -> u32 {
         let mut values = [0; 4];
