@@ -2,7 +2,7 @@
  *
  * Link target/staticlib/libnalfipode.a (rt staticlib nalfipode makes it). No call allocates, keeps a pointer,
  * or has state of its own; calls on different memory may run at the same time. As the kit compiles it, the
- * image writer takes at most 48 KB of stack, the image checker 32 KB, the check of a table 24 KB, each on the
+ * image writer takes at most 56 KB of stack, the image checker 32 KB, the check of a table 24 KB, each on the
  * deepest tree, and every other call less than 1 KB.
  *
  * Every call returns a number of enum nalfipode_number, NALFIPODE_OK (0) where it is accepted, and writes its
