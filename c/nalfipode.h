@@ -67,6 +67,7 @@ enum {
     NALFIPODE_SLICE_VALUES = 3,
     NALFIPODE_AUDIT_VALUES = 1,
     NALFIPODE_IMAGE_WRITE_VALUES = 1,
+    NALFIPODE_IMAGE_DESCRIBE_VALUES = 3,
     NALFIPODE_IMAGE_LOOK_VALUES = 2
 };
 
@@ -129,6 +130,11 @@ uint32_t nalfipode_image_write(const uint32_t *table, size_t table_words, uint64
 /* Whether some list of prefixes and some epoch give these bytes. No values.
  * Refuses: BAD_IMAGE where none do. */
 uint32_t nalfipode_image_verify(const uint8_t *image, size_t image_bytes);
+
+/* What an image that nalfipode_image_verify accepts says of itself; of other bytes the numbers are of no use.
+ * Values: how many nodes, how many data entries, the epoch.
+ * Refuses: BAD_IMAGE where the bytes do not end as an image does, or have no room for the nodes. */
+uint32_t nalfipode_image_describe(const uint8_t *image, size_t image_bytes, uint64_t values[3]);
 
 /* The zone of a 128-bit address: the longest match of the list, in an image that nalfipode_image_verify accepts,
  * and there it refuses no address. Any other bytes are safe.

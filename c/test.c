@@ -280,6 +280,15 @@ static void look(const uint8_t *bytes, size_t n, uint32_t first, uint32_t number
     same("zone found", values[1], zone);
 }
 
+static void describe(const uint8_t *bytes, size_t n, uint32_t number, uint64_t nodes, uint64_t entries, uint64_t epoch)
+{
+    uint64_t facts[3] = {GUARD, GUARD, GUARD};
+    same("describe", nalfipode_image_describe(bytes, n, facts), number);
+    same("nodes told", facts[0] == nodes, 1);
+    same("entries told", facts[1] == entries, 1);
+    same("epoch told", facts[2] == epoch, 1);
+}
+
 static void images(void)
 {
     fresh(8);
@@ -290,6 +299,7 @@ static void images(void)
     look(written, WHOLE, 0, NALFIPODE_OK, 1, 5);
     look(written, WHOLE, 0x7FFFFFFF, NALFIPODE_OK, 1, 5);
     look(written, WHOLE, 0x80000000, NALFIPODE_OK, 0, 0);
+    describe(written, WHOLE, NALFIPODE_OK, 1, 1, 0);
     image(words, 0, ROOM, NALFIPODE_OK, WHOLE);
     same_bytes("whole example in more room", written, whole_image, WHOLE);
     image(words, 0, WHOLE - 1, NALFIPODE_SHORT_OUT, WHOLE);
@@ -297,6 +307,7 @@ static void images(void)
     image(words, UINT64_MAX, WHOLE, NALFIPODE_SHORT_OUT, WHOLE + 8);
     image(words, UINT64_MAX, WHOLE + 8, NALFIPODE_OK, WHOLE + 8);
     same("another epoch accepted", nalfipode_image_verify(written, WHOLE + 8), NALFIPODE_OK);
+    describe(written, WHOLE + 8, NALFIPODE_OK, 1, 1, UINT64_MAX);
     image(words - 1, 0, ROOM, NALFIPODE_BAD_LENGTH, 0);
 }
 
@@ -308,6 +319,7 @@ static void other_images(void)
     set_a();
     same("image of set A", nalfipode_image_write(table, words, 1, written, ROOM, size), NALFIPODE_OK);
     same("image of set A accepted", nalfipode_image_verify(written, size[0]), NALFIPODE_OK);
+    describe(written, size[0], NALFIPODE_OK, 4, 3, 1);
     look(written, size[0], 0x00000000, NALFIPODE_OK, 1, 10);
     look(written, size[0], 0x70000000, NALFIPODE_OK, 1, 20);
     look(written, size[0], 0x6FFFFFFF, NALFIPODE_OK, 1, 30);
@@ -316,6 +328,7 @@ static void other_images(void)
     image(words, 0, ROOM, NALFIPODE_OK, WHOLE - 2);
     same_bytes("image of the empty set", written, empty, 6);
     same("image of the empty set accepted", nalfipode_image_verify(written, WHOLE - 2), NALFIPODE_OK);
+    describe(written, WHOLE - 2, NALFIPODE_OK, 1, 0, 0);
     look(written, WHOLE - 2, 0, NALFIPODE_OK, 0, 0);
 }
 
@@ -332,6 +345,8 @@ static void no_images(void)
     same("no bytes", nalfipode_image_verify(whole_image, 0), NALFIPODE_BAD_IMAGE);
     look(whole_image, WHOLE - 1, 0, NALFIPODE_BAD_IMAGE, 0, 0);
     look(whole_image, 0, 0, NALFIPODE_BAD_IMAGE, 0, 0);
+    describe(whole_image, WHOLE - 1, NALFIPODE_BAD_IMAGE, 0, 0, 0);
+    describe(whole_image, 0, NALFIPODE_BAD_IMAGE, 0, 0, 0);
 }
 
 /* ---- the refusals */

@@ -1,7 +1,10 @@
 //! The calls of the library that the programs use. This file alone says where they come from.
 
 use crate::prefix::Prefix;
-use nalfipode::{image_look, image_verify, raw, table_words, Refusal, Zone, MOST_RECORDS, TRAIL_BYTES};
+use nalfipode::{
+    image_describe, image_look, image_verify, raw, table_words, Facts, Refusal, Zone, MOST_RECORDS,
+    TRAIL_BYTES,
+};
 
 /// The node records of the largest table.
 pub const RECORDS: usize = MOST_RECORDS;
@@ -70,6 +73,11 @@ pub fn verify(image: &[u8]) -> bool {
     image_verify(image).is_ok()
 }
 
+/// How many nodes and data entries an image has, and its epoch; none where the bytes give out.
+pub fn facts(image: &[u8]) -> Option<Facts> {
+    image_describe(image).ok()
+}
+
 /// The zone number for 128 bits, or none for no data.
 pub fn look(image: &[u8], address: [u32; 4]) -> Result<Option<u32>, BadImage> {
     image_look(image, address).map(|found| found.map(|zone| zone.0)).map_err(|_| BadImage)
@@ -136,5 +144,18 @@ mod tests {
         assert_eq!(stored, 32_769);
         let again = Prefix::new(16, [0; 4]).unwrap();
         assert_eq!(table.store(again, 9), Ok(Some(0)));
+    }
+
+    #[test]
+    fn facts_of_images() {
+        let mut table = Table::fresh(RECORDS);
+        assert_eq!(facts(&table.image(0)), Some(Facts { nodes: 1, entries: 0, epoch: 0 }));
+        for (prefix, zone) in [("0/2", 0), ("4/2", 70_000), ("6/4", 30), ("FFFFFFFF/32", 30)] {
+            table.store(prefix.parse().unwrap(), zone).unwrap();
+        }
+        for epoch in [0, 1, 256, u64::MAX] {
+            assert_eq!(facts(&table.image(epoch)), Some(Facts { nodes: 35, entries: 3, epoch }));
+        }
+        assert_eq!(facts(b""), None);
     }
 }

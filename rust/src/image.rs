@@ -60,6 +60,35 @@ pub fn image_verify(image: &[u8]) -> Result<(), Refusal> {
     Refusal::or_accepted(raw::image_verify(image))
 }
 
+/// What an image says of itself.
+#[derive(Clone, Copy, PartialEq, Eq, Hash, Debug)]
+pub struct Facts {
+    /// The nodes of the search tree.
+    pub nodes: u64,
+    /// The data entries, one for each different zone number that some record uses.
+    pub entries: u64,
+    /// The build epoch.
+    pub epoch: u64,
+}
+
+/// What an image that [`image_verify`] accepts says of itself. Of other bytes the numbers are of no use; BadImage
+/// where they do not end as an image does, or have no room for the nodes.
+///
+/// ```
+/// use nalfipode::{image_describe, Facts, Refusal, Table};
+/// let mut words = [0; 16];
+/// let table = Table::fresh(&mut words).unwrap();
+/// let mut image = [0; 178];
+/// assert_eq!(table.image_write(9, &mut image), Ok(178));
+/// assert_eq!(image_describe(&image), Ok(Facts { nodes: 1, entries: 0, epoch: 9 }));
+/// assert_eq!(image_describe(b"no image"), Err(Refusal::BadImage));
+/// ```
+pub fn image_describe(image: &[u8]) -> Result<Facts, Refusal> {
+    let mut values = [0; 3];
+    Refusal::or_accepted(raw::image_describe(image, &mut values))?;
+    Ok(Facts { nodes: values[0], entries: values[1], epoch: values[2] })
+}
+
 /// The zone number of an address, 128 bits in four words, or none where there is no data. In an image that
 /// [`image_verify`] accepts that is the longest match of its list, and no address is refused. Other bytes are safe;
 /// BadImage where the lookup met what no image has.

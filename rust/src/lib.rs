@@ -30,7 +30,7 @@ mod refusal;
 mod table;
 
 pub use cells::cell;
-pub use image::{image_look, image_verify, NotWritten};
+pub use image::{image_describe, image_look, image_verify, Facts, NotWritten};
 pub use prefix::Prefix;
 pub use refusal::{Refusal, Refused};
 pub use table::{Entry, Fetched, Match, Matched, Removed, Slice, Stored, Table};

@@ -71,6 +71,7 @@ mod linked {
             values: *mut u64,
         ) -> u32;
         pub fn nalfipode_image_verify(image: *const u8, bytes: usize) -> u32;
+        pub fn nalfipode_image_describe(image: *const u8, bytes: usize, values: *mut u64) -> u32;
         pub fn nalfipode_image_look(image: *const u8, bytes: usize, key: *const u32, values: *mut u32) -> u32;
     }
 }
@@ -203,6 +204,11 @@ pub fn image_write(table: &[u32], epoch: u64, out: &mut [u8], values: &mut [u64;
 /// No values.
 pub fn image_verify(image: &[u8]) -> u32 {
     unsafe { linked::nalfipode_image_verify(image.as_ptr(), image.len()) }
+}
+
+/// Values: nodes, data entries, epoch.
+pub fn image_describe(image: &[u8], values: &mut [u64; 3]) -> u32 {
+    unsafe { linked::nalfipode_image_describe(image.as_ptr(), image.len(), values.as_mut_ptr()) }
 }
 
 /// Values: 1 for a zone number, it.

@@ -45,7 +45,7 @@ numberOf BadImage = 9
 
 abbrev pub valuesOf : Described → List ℕ
 valuesOf (Image n entries epoch) = n ∷ entries ∷ epoch ∷ []
-valuesOf BadImage = []
+valuesOf BadImage = 0 ∷ 0 ∷ 0 ∷ []
 
 -- ---- what `describe` promises
 

@@ -23,6 +23,7 @@ use Rattle.listing.specs.declared.Resume.{Resume}
 use Rattle.listing.proofs.SlicingLaws.{slice-single}
 use Rattle.image_lookup.specs.Looking as looking
 use Rattle.image_lookup.proofs.LookingLaws.{look-single}
+use Rattle.image_verify.specs.Describing as describing
 use Rattle.image_verify.specs.Verifying as verifying
 use Rattle.image_write.specs.Writing as writing
 use Rattle.nalfipode.specs.Cells.{CellOut}
@@ -30,7 +31,7 @@ use Rattle.nalfipode.specs.Changes.{FreshOut, StoreOut, RemoveOut}
 use Rattle.nalfipode.specs.Reads.{FetchOut, LongestMatchOut}
 use Rattle.nalfipode.specs.Slices.{SliceOut}
 use Rattle.nalfipode.specs.Checks.{AuditOut}
-use Rattle.nalfipode.specs.Images.{WriteOut, VerifyOut, LookOut}
+use Rattle.nalfipode.specs.Images.{WriteOut, VerifyOut, DescribeOut, LookOut}
 use Rattle.image_write.proofs.SingleLaws.{write-single}
 
 -- a number or a list of values that two answers give, where these are equal
@@ -93,6 +94,11 @@ writeOut-single x y =
 
 pub verifyOut-single : {bs : List ℕ} {r q : ℕ} → VerifyOut bs r → VerifyOut bs q → r ≡ q
 verifyOut-single x y = alike verifying.numberOf (x .number) (y .number) (x .promise .answer ∙ sym (y .promise .answer))
+
+pub describeOut-single : {bs : List ℕ} {r q : ℕ} {xs ys : List ℕ} → DescribeOut bs r xs → DescribeOut bs q ys → (r ≡ q) × (xs ≡ ys)
+describeOut-single x y =
+    let e = x .promise .answer ∙ sym (y .promise .answer) in
+    (alike describing.numberOf (x .number) (y .number) e, alike describing.valuesOf (x .listed) (y .listed) e)
 
 pub lookOut-single : {bs ks : List ℕ} {r q : ℕ} {xs ys : List ℕ} → LookOut bs ks r xs → LookOut bs ks q ys → (r ≡ q) × (xs ≡ ys)
 lookOut-single x y =

@@ -1,7 +1,6 @@
 -- The image calls, from C.
---   WriteOut, VerifyOut, LookOut   the contracts of `nalfipode_image_write`, `nalfipode_image_verify` and
---                                  `nalfipode_image_look`: everything passed, the number r returned, and what
---                                  is left behind
+--   WriteOut, VerifyOut, DescribeOut, LookOut   the contracts of `nalfipode_image_write`, `.._verify`,
+--       `.._describe` and `.._look`: everything passed, the number r returned, and what is left behind
 -- Assumes nothing.
 use Prim.Native.Nat.{ℕ}
 use mathlib.Core.Path.{_≡_}
@@ -10,6 +9,9 @@ use lib.ListN.{getD}
 use Rattle.image_lookup.specs.Looking as looking
 use Rattle.image_lookup.specs.Looking.{addressBits, LookImage}
 use Rattle.image_lookup.specs.declared.Looked.{Looked}
+use Rattle.image_verify.specs.Describing as describing
+use Rattle.image_verify.specs.Describing.{Describe}
+use Rattle.image_verify.specs.declared.Described.{Described}
 use Rattle.image_verify.specs.Verifying as verifying
 use Rattle.image_verify.specs.Verifying.{VerifyImage}
 use Rattle.image_verify.specs.declared.Verified.{Verified}
@@ -28,6 +30,12 @@ pub record VerifyOut (bs : List ℕ) (r : ℕ) : Type 0 where
   pub answer : Verified
   pub promise : VerifyImage bs answer
   pub number : r ≡ verifying.numberOf answer
+
+pub record DescribeOut (bs : List ℕ) (r : ℕ) (values : List ℕ) : Type 0 where
+  pub answer : Described
+  pub promise : Describe bs answer
+  pub number : r ≡ describing.numberOf answer
+  pub listed : values ≡ describing.valuesOf answer
 
 -- "Image lookup takes 128 bits": four words ks, as C lends a key
 pub record LookOut (bs ks : List ℕ) (r : ℕ) (values : List ℕ) : Type 0 where

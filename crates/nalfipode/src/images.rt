@@ -1,15 +1,18 @@
 // The image calls.
+use crate::Facts;
 use crate::Long;
 use crate::Two;
 use image_lookup::Looked;
+use image_verify::Described;
 use image_verify::Verified;
 use image_write::Written;
 ghost use mathlib.Core.Path.{_≡_};
 ghost use Rattle.image_lookup.specs.Looking as looking;
+ghost use Rattle.image_verify.specs.Describing as describing;
 ghost use Rattle.image_verify.specs.Verifying as verifying;
 ghost use Rattle.image_write.specs.Writing as writing;
-ghost use Rattle.nalfipode.specs.Values.{twoOf, longOf};
-ghost use Rattle.nalfipode.specs.Images.{WriteOut, VerifyOut, LookOut};
+ghost use Rattle.nalfipode.specs.Values.{twoOf, longOf, factsOf};
+ghost use Rattle.nalfipode.specs.Images.{WriteOut, VerifyOut, DescribeOut, LookOut};
 
 // ---- write
 
@@ -55,6 +58,27 @@ fn verified(x: Verified) -> u32
     match x {
         Verified::Yes => 0,
         Verified::BadImage => 9,
+    }
+}
+
+// ---- describe
+
+// Values: nodes, data entries, epoch. Of use for bytes that the checker accepts.
+#[no_mangle]
+pub extern "C" fn nalfipode_image_describe(bytes: &[u8], values: &mut [u64; 3]) -> u32
+    ensures { λ r. ⌜ DescribeOut (now (bytes .entry)) r (now (values .exit)) ⌝ }
+{
+    let v = described(image_verify::describe(bytes));
+    *values = [v.1, v.2, v.3];
+    v.0
+}
+
+fn described(x: Described) -> Facts
+    ensures { λ v. ⌜ (v .0 ≡ describing.numberOf x) × (factsOf v ≡ describing.valuesOf x) ⌝ }
+{
+    match x {
+        Described::Image(n, k, epoch) => Facts(0, n as u64, k as u64, epoch),
+        Described::BadImage => Facts(9, 0, 0, 0),
     }
 }
 

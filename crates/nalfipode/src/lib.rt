@@ -8,7 +8,7 @@ ghost use Rattle.nalfipode.specs.Keys.{keyOf};
 pub mod cells; // a position's cell
 pub mod changes; // fresh, store and remove
 pub mod checks; // the check of a whole table
-pub mod images; // an image written, checked, and looked up in
+pub mod images; // an image written, checked, described, and looked up in
 pub mod reads; // fetch and longest match
 pub mod slices; // a listing's slice
 
@@ -19,6 +19,9 @@ pub struct One(pub u32, pub u32);
 pub struct Long(pub u32, pub u64);
 
 pub struct Two(pub u32, pub u32, pub u32);
+
+// What an image says of itself: two counts, and an epoch of 64 bits.
+pub struct Facts(pub u32, pub u64, pub u64, pub u64);
 
 pub struct Three(pub u32, pub u32, pub u32, pub u32);
 

@@ -1,7 +1,7 @@
 //! image_check FILE: is it a map, and what does it say of itself?
 
 use programs::library;
-use programs::maps::{facts, read};
+use programs::maps::read;
 use programs::run;
 use std::process::ExitCode;
 
@@ -18,7 +18,7 @@ fn main() -> ExitCode {
                 run::say("no")?;
                 return Ok(run::FAULTS);
             }
-            let facts = facts(&image).ok_or("accepted, but its counts cannot be read")?;
+            let facts = library::facts(&image).ok_or("accepted, but its counts cannot be read")?;
             run::say(&format!(
                 "yes, {} nodes, {} entries, epoch {}",
                 facts.nodes, facts.entries, facts.epoch
