@@ -35,23 +35,35 @@ fn filled<P: Peer>(data: &Data) -> P {
     peer
 }
 
-/// Nanoseconds per call of each kind, the least of some rounds; none where the peer has no such call.
-fn timed<P: Peer>(data: &Data) -> Vec<Option<f64>> {
-    let mut peer = filled::<P>(data);
-    let mut least = vec![f64::MAX; CALLS.len()];
-    for _ in 0..ROUNDS {
+/// A peer with the least nanoseconds per call of each kind so far.
+struct Timed<P> {
+    peer: P,
+    least: Vec<f64>,
+}
+
+impl<P: Peer> Timed<P> {
+    fn new(data: &Data) -> Self {
+        Timed { peer: filled(data), least: vec![f64::MAX; CALLS.len()] }
+    }
+
+    /// One round of each kind of call. Peers take turns, so that what else the machine does meets them alike.
+    fn turn(&mut self, data: &Data) {
         for (i, what) in CALLS.iter().enumerate() {
             if *what == "remove" {
                 continue;
             }
-            let (first, second) = round(&mut peer, data, what);
-            least[i] = least[i].min(first);
+            let (first, second) = round(&mut self.peer, data, what);
+            self.least[i] = self.least[i].min(first);
             if *what == "store" {
-                least[i + 1] = least[i + 1].min(second);
+                self.least[i + 1] = self.least[i + 1].min(second);
             }
         }
     }
-    least.iter().map(|t| if *t == f64::MAX { None } else { Some(*t) }).collect()
+
+    /// None where the peer has no such call.
+    fn times(&self) -> Vec<Option<f64>> {
+        self.least.iter().map(|t| if *t == f64::MAX { None } else { Some(*t) }).collect()
+    }
 }
 
 fn per(start: Instant, calls: usize) -> f64 {
@@ -148,11 +160,19 @@ fn table() {
             println!("\n{} {}, {:.1} nodes on a path; ns per call (ratio)\n", size, kind.name(), nodes);
             println!("| | {} |", CALLS.join(" | "));
             println!("|---|{}", "---|".repeat(CALLS.len()));
-            let ours = timed::<Ours>(&data);
-            shown(Ours::NAME, &ours, &ours);
-            shown(Tree::NAME, &timed::<Tree>(&data), &ours);
-            shown(Map::NAME, &timed::<Map>(&data), &ours);
-            shown(Sorted::NAME, &timed::<Sorted>(&data), &ours);
+            let (mut ours, mut tree) = (Timed::<Ours>::new(&data), Timed::<Tree>::new(&data));
+            let (mut map, mut sorted) = (Timed::<Map>::new(&data), Timed::<Sorted>::new(&data));
+            for _ in 0..ROUNDS {
+                ours.turn(&data);
+                tree.turn(&data);
+                map.turn(&data);
+                sorted.turn(&data);
+            }
+            let least = ours.times();
+            shown(Ours::NAME, &least, &least);
+            shown(Tree::NAME, &tree.times(), &least);
+            shown(Map::NAME, &map.times(), &least);
+            shown(Sorted::NAME, &sorted.times(), &least);
         }
     }
 }
