@@ -41,6 +41,13 @@ isPrefix-take (true ∷ p) (true ∷ k) (suc n) h i = isPrefix-take p k n h (ome
 isPrefix-take (false ∷ p) (false ∷ k) zero h i = absurd (omega arith)
 isPrefix-take (true ∷ p) (true ∷ k) zero h i = absurd (omega arith)
 
+pub isPrefix-taken : (p k : Bits) (n : ℕ) → T (isPrefix p (take n k)) → T (isPrefix p k)
+isPrefix-taken [] k n h = tt
+isPrefix-taken (false ∷ p) (false ∷ k) (suc n) h = isPrefix-taken p k n h
+isPrefix-taken (true ∷ p) (true ∷ k) (suc n) h = isPrefix-taken p k n h
+isPrefix-taken (false ∷ p) k zero h = absurd h
+isPrefix-taken (true ∷ p) k zero h = absurd h
+
 -- a prefix of k is what k's first bits are
 pub take-isPrefix : (p k : Bits) → T (isPrefix p k) → take (length p) k ≡ p
 take-isPrefix [] k h = refl

@@ -5,12 +5,12 @@ use Prim.Native.Nat.{ℕ, zero, suc, _-_, _≤_, _<_}
 use native.Mathlib.Nat.{not-suc-le-zero, le-of-suc-le-suc, suc-sub-suc, sub-zero, zero-sub}
 use native.Mathlib.Omega.{arith}
 use mathlib.Core.Path.{_≡_, refl, sym, ap, ap₂, _∙_, subst}
-use mathlib.Core.Bool.{Bool, true, false, _&&_}
+use mathlib.Core.Bool.{Bool, true, false, _&&_, true≢false}
 use mathlib.Core.List.{[], _∷_, _++_}
-use lib.Dec.{leb·suc-suc}
+use lib.Dec.{T, leb·suc-suc}
 use lib.ListN.{length, take, drop}
 use borrow.Author.Tests.{lt-ltb, le-ltb}
-use Rattle.bits.specs.Bits.{Bits, order}
+use Rattle.bits.specs.Bits.{Bits, isPrefix, order}
 use Rattle.bits.specs.Numbers.{clear, blank, numberOrder, orElse}
 use Rattle.bits.specs.declared.Order.{Order}
 use Rattle.bits.specs.declared.Order.the-variants.{Before, Same, After}
@@ -28,6 +28,14 @@ clear-drop-append (suc n) [] r = rw sub-zero
 clear-drop-append (suc n) (x ∷ a) r = rw suc-sub-suc (clear-drop-append n a r)
 
 -- ---- blank
+
+-- a string that is clear after its first n bits goes on with 0
+pub clear-next : (n : ℕ) (a : Bits) → n < length a → clear (drop n a) ≡ true → T (isPrefix (take n a ++ (false ∷ [])) a)
+clear-next n [] h e = absurd (omega arith)
+clear-next zero (false ∷ a) h e = tt
+clear-next zero (true ∷ a) h e = absurd (true≢false (sym e))
+clear-next (suc n) (false ∷ a) h e = clear-next n a (omega arith) e
+clear-next (suc n) (true ∷ a) h e = clear-next n a (omega arith) e
 
 pub length-blank : (n : ℕ) (a : Bits) → length (blank n a) ≡ length a
 length-blank n [] = refl

@@ -4,4 +4,5 @@ pub mod MeetLaws
 pub mod RisingLaws
 pub mod BlankLaws
 pub mod NumbersLaws
+pub mod PartingLaws
 pub mod ValueLaws

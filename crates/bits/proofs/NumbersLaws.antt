@@ -7,17 +7,17 @@ use native.Mathlib.Numerals.{add-one}
 use native.Mathlib.Omega.{arith}
 use mathlib.Core.Path.{_≡_, refl, sym, ap, _∙_, subst}
 use mathlib.Core.Logic.{_⊎_, inl, inr, _≢_}
-use mathlib.Core.Bool.{Bool, true, false, cond}
+use mathlib.Core.Bool.{Bool, true, false, not, _&&_, cond}
 use mathlib.Core.List.{_∷_, _++_}
-use lib.Dec.{ltb}
+use lib.Dec.{eqb, ltb}
 use lib.ListN.{length, getD, take, drop}
 use lib.Seq.{take-at, drop-at}
 use lib.Pow.{pow-pos, shr-shr, shl-shr, shl-exact, shr-lt, mod-pow-add}
 use lib.Bits.{bitXor, xor-add-and, and-le-l, and-le-r, xor-shr, xor-self, xor-lt}
 use lib.Count.{leadingZeros, leading-length}
-use borrow.Author.Tests.{eqb-true, eqb-false, ltb-true, ltb-false}
+use borrow.Author.Tests.{eqb-true, eqb-false, ltb-true, ltb-false, eq-eqb, ne-eqb}
 use Rattle.bits.specs.Bits.{Bits, lcp, order}
-use Rattle.bits.specs.Numbers.{odd, bitsOf, blank, numberOrder}
+use Rattle.bits.specs.Numbers.{odd, bitsOf, clear, blank, numberOrder}
 use Rattle.bits.specs.declared.Order.the-variants.{Before, Same, After}
 use Rattle.bits.proofs.BitsLaws.{lcp-self, order-refl, order-flip, flip}
 use Rattle.bits.proofs.BlankLaws.{blank-append, blank-all}
@@ -94,6 +94,18 @@ bitsOf-mod (suc n) x y e = go (odd (y / 2 ^ n)) head refl (bitsOf-mod n x y tail
 
 pub bitsOf-inj : (n x y : ℕ) → x < 2 ^ n → y < 2 ^ n → bitsOf n x ≡ bitsOf n y → x ≡ y
 bitsOf-inj n x y hx hy e = sym (mod-eq-of-lt hx) ∙ bitsOf-mod n x y e ∙ mod-eq-of-lt hy
+
+-- ---- clear
+
+-- no bit of the n lowest is set exactly where they are 0 as a number
+pub clear-bitsOf : (n x : ℕ) → clear (bitsOf n x) ≡ eqb (x % 2 ^ n) 0
+unfolding bitsOf
+clear-bitsOf zero x = sym (eq-eqb (x % 1) 0 (omega arith))
+clear-bitsOf (suc n) x = go (odd (x / 2 ^ n)) refl (clear-bitsOf n x)
+  where
+    go : (b : Bool) → odd (x / 2 ^ n) ≡ b → clear (bitsOf n x) ≡ eqb (x % 2 ^ n) 0 → (not b && clear (bitsOf n x)) ≡ eqb (x % 2 ^ suc n) 0
+    go true h e = sym (ne-eqb (x % 2 ^ suc n) 0 (λ q. omega (arith, mod-one n x h, pow-pos n)))
+    go false h e = rw (mod-zero n x h) e
 
 -- ---- blank
 

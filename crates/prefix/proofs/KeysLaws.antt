@@ -1,14 +1,16 @@
 -- The laws of a prefix as the bit string that it is, and those that make the contracts.
 -- No contract cites this file.
 -- Assumes nothing.
-use Prim.Native.Nat.{ℕ, _-_, _^_, _≤_, _<_, min}
+use Prim.Native.Nat.{ℕ, _-_, _/_, _%_, _^_, _≤_, _<_, min}
+use native.Mathlib.Decide.{decLe}
 use native.Mathlib.Omega.{arith}
 use mathlib.Core.Path.{_≡_, refl, sym, ap, ap₂, _∙_}
 use mathlib.Core.Bool.{Bool, true, false, _&&_}
+use mathlib.Core.List.{[]}
 use lib.Dec.{eqb, leb}
-use lib.ListN.{length, getD, take, drop, length-take}
+use lib.ListN.{length, getD, take, drop, length-take, drop-of-length-le}
 use lib.Seq.{take-take, getD-take}
-use borrow.Author.Tests.{le-leb, leb-true}
+use borrow.Author.Tests.{le-leb, lt-leb, leb-true, eq-eqb, ne-eqb}
 use Rattle.bits.specs.Bits.{lcp, order, isPrefix, meet}
 use Rattle.bits.specs.Numbers.{bitsOf, value, clear, blank, numberOrder, orElse}
 use Rattle.bits.specs.declared.Meeting.the-variants.{Equal, Below, Above, Apart}
@@ -16,10 +18,11 @@ use Rattle.bits.proofs.BitsLaws.{length-lcp-take, isPrefix-lcp}
 use Rattle.bits.proofs.MeetLaws.{meet-apart, meet-above, meet-below, meet-equal}
 use Rattle.bits.proofs.BlankLaws.{length-blank, take-blank, clear-drop-blank, blank-clear, blank-ext, orElse-assoc, order-take}
 use Rattle.bits.proofs.NumbersLaws.{length-bitsOf}
-use Rattle.bits.proofs.ValueLaws.{value-bitsOf, bitsOf-value}
-use Rattle.prefix.specs.Keys.{wordBits, stringOf, isValid, Valid, cutOf, Validity, Shared, Cut}
+use Rattle.bits.proofs.ValueLaws.{value-lt, bitsOf-value}
+use Rattle.prefix.specs.Keys.{wordBits, stringOf, isValid, Valid, cutOf, Validity, Shared, Cut, High, Low}
 use Rattle.prefix.specs.declared.Prefix.{Prefix}
-use Rattle.prefix.proofs.WordsLaws.{Small, length-wordBits, order-wordBits, wordBits-inj, clear-wordBits, blank-wordBits}
+use Rattle.prefix.proofs.WordsLaws.{Small, length-wordBits, order-wordBits, wordBits-inj, blank-wordBits}
+use Rattle.prefix.proofs.HalvesLaws.{clear-zero, clear-first, clear-second, wordBits-blank}
 
 -- ---- stringOf
 
@@ -101,15 +104,29 @@ valid-isValid p v = rw (le-leb (p .width) 128 (v .narrow)) (v .clean)
 
 -- ---- the contracts
 
-pub valid-promise : (p : Prefix) (n1 n2 n3 : ℕ) (c0 c1 c2 c3 : Bool) → n1 ≡ p .width - 32 → n2 ≡ p .width - 64 → n3 ≡ p .width - 96
-    → c0 ≡ clear (drop (p .width) (bitsOf 32 (p .w0))) → c1 ≡ clear (drop n1 (bitsOf 32 (p .w1)))
-    → c2 ≡ clear (drop n2 (bitsOf 32 (p .w2))) → c3 ≡ clear (drop n3 (bitsOf 32 (p .w3)))
-    → Validity p (leb (p .width) 128 && (c0 && (c1 && (c2 && c3))))
-unfolding isValid
-valid-promise p n1 n2 n3 c0 c1 c2 c3 m1 m2 m3 e0 e1 e2 e3 =
-    let r : Bool = leb (p .width) 128 && (c0 && (c1 && (c2 && c3))) in
-    let a : r ≡ isValid p = rw (clear-wordBits, e0, e1, e2, e3, m1, m2, m3) in
-    record { answer = a; yes = λ t. isValid-true p (sym a ∙ t) }
+validity : (p : Prefix) (c : Bool) → c ≡ isValid p → Validity p c
+validity p c e = record { answer = e; yes = λ t. isValid-true p (sym e ∙ t) }
+
+module _ (p : Prefix) where
+  pub valid-short : (x y : ℕ) (c : Bool) → High p x → Low p y → y < 2 ^ 64 → c ≡ clear (drop (p .width) (bitsOf 64 x)) → p .width < 64
+      → Validity p (c && eqb y 0)
+  unfolding isValid
+  valid-short x y c hx hy b e h =
+      validity p (c && eqb y 0) (rw (le-leb (p .width) 128 (omega arith), clear-first p (p .width) y hy x hx h, e, clear-zero y b))
+
+  pub valid-long : (y : ℕ) (c : Bool) → Low p y → c ≡ clear (drop (p .width - 64) (bitsOf 64 y)) → 64 ≤ p .width → p .width < 128 → Validity p c
+  unfolding isValid
+  valid-long y c hy e h g = validity p c (rw (le-leb (p .width) 128 (omega arith), clear-second p (p .width) y hy h) e)
+
+  pub valid-full : 128 ≤ p .width → Validity p (eqb (p .width) 128)
+  unfolding isValid
+  valid-full h =
+      let e : drop (p .width) (wordBits p) ≡ [] = drop-of-length-le (wordBits p) {i = p .width} (omega (arith, length-wordBits p)) in
+      validity p (eqb (p .width) 128) (rw e (at (decLe (p .width) 128)))
+    where
+      at : Dec (p .width ≤ 128) → eqb (p .width) 128 ≡ (leb (p .width) 128 && true)
+      at (yes g) = eq-eqb (p .width) 128 (omega arith) ∙ rw (le-leb (p .width) 128 g)
+      at (no g) = ne-eqb (p .width) 128 (λ q. omega arith) ∙ rw (lt-leb (p .width) 128 (omega arith))
 
 pub shared-promise : (a b : Prefix) (r : ℕ) → r ≡ min (min (a .width) (b .width)) (length (lcp (wordBits a) (wordBits b))) → Shared a b r
 unfolding stringOf
@@ -119,10 +136,6 @@ shared-promise a b r e =
       left = omega arith;
       right = omega arith;
     }
-
--- a word is what its kept bits say
-word-blank : (n m x r : ℕ) → r < 2 ^ 32 → m ≡ n → bitsOf 32 r ≡ blank m (bitsOf 32 x) → r ≡ value (blank n (bitsOf 32 x))
-word-blank n m x r h q e = sym (value-bitsOf 32 r h) ∙ ap value e ∙ ap (λ (j : ℕ). value (blank j (bitsOf 32 x))) q
 
 -- a prefix whose words are those of a with the bits after its width blanked
 cut-blank : (a r : Prefix) → r ≡ cutOf a (r .width) → r .width ≤ a .width → a .width ≤ 128 → wordBits r ≡ blank (r .width) (wordBits a)
@@ -135,20 +148,6 @@ cut-blank a r is h g e =
       string = rw e (take-blank (r .width) (wordBits a) ∙ sym (take-take (r .width) (a .width) (wordBits a) h));
       valid = record { narrow = omega arith; clean = rw e (clear-drop-blank (r .width) (wordBits a)) };
     }
-
-pub cut-promise : (a : Prefix) (n n1 n2 n3 r0 r1 r2 r3 : ℕ) → a .width ≤ 128 → n ≤ a .width → n1 ≡ n - 32 → n2 ≡ n - 64 → n3 ≡ n - 96
-    → Small (record { width = n; w0 = r0; w1 = r1; w2 = r2; w3 = r3 })
-    → bitsOf 32 r0 ≡ blank n (bitsOf 32 (a .w0)) → bitsOf 32 r1 ≡ blank n1 (bitsOf 32 (a .w1))
-    → bitsOf 32 r2 ≡ blank n2 (bitsOf 32 (a .w2)) → bitsOf 32 r3 ≡ blank n3 (bitsOf 32 (a .w3))
-    → Cut a n (record { width = n; w0 = r0; w1 = r1; w2 = r2; w3 = r3 })
-unfolding wordBits cutOf
-cut-promise a n n1 n2 n3 r0 r1 r2 r3 g h m1 m2 m3 small e0 e1 e2 e3 =
-    let q0 = word-blank n n (a .w0) r0 (small .0) refl e0 in
-    let q1 = word-blank (n - 32) n1 (a .w1) r1 (small .1) m1 e1 in
-    let q2 = word-blank (n - 64) n2 (a .w2) r2 (small .2) m2 e2 in
-    let q3 = word-blank (n - 96) n3 (a .w3) r3 (small .3) m3 e3 in
-    cut-blank a (record { width = n; w0 = r0; w1 = r1; w2 = r2; w3 = r3 })
-    (λ i. record { width = n; w0 = q0 i; w1 = q1 i; w2 = q2 i; w3 = q3 i }) h g (rw (e0, e1, e2, e3, m1, m2, m3, blank-wordBits))
 
 -- ---- cutOf
 
@@ -170,3 +169,23 @@ module _ (a : Prefix) (n : ℕ) (h : n ≤ a .width) (g : a .width ≤ 128) wher
 
   pub stringOf-cutOf : stringOf (cutOf a n) ≡ take n (stringOf a)
   stringOf-cutOf = cut-cutOf .string
+
+-- ---- cut
+
+small-cutOf : (a : Prefix) (n : ℕ) → Small (cutOf a n)
+unfolding cutOf
+small-cutOf a n = (blank-lt n (a .w0), blank-lt (n - 32) (a .w1), blank-lt (n - 64) (a .w2), blank-lt (n - 96) (a .w3))
+  where
+    blank-lt : (m x : ℕ) → value (blank m (bitsOf 32 x)) < 2 ^ 32
+    blank-lt m x = rw (length-blank, length-bitsOf) at (value-lt (blank m (bitsOf 32 x)))
+
+pub cut-promise : (a : Prefix) (n m x y u v r0 r1 r2 r3 : ℕ) → a .width ≤ 128 → n ≤ a .width → High a x → Low a y → m ≡ n - 64 → u < 2 ^ 64
+    → v < 2 ^ 64 → bitsOf 64 u ≡ blank n (bitsOf 64 x) → bitsOf 64 v ≡ blank m (bitsOf 64 y) → r0 ≡ u / 4294967296 → r1 ≡ u % 4294967296
+    → r2 ≡ v / 4294967296 → r3 ≡ v % 4294967296 → Cut a n (record { width = n; w0 = r0; w1 = r1; w2 = r2; w3 = r3 })
+unfolding cutOf
+cut-promise a n m x y u v r0 r1 r2 r3 g h hx hy em bu bv eu ev e0 e1 e2 e3 =
+    let r : Prefix = record { width = n; w0 = r0; w1 = r1; w2 = r2; w3 = r3 } in
+    let e : wordBits r ≡ blank n (wordBits a) = wordBits-blank a r x y u v n hx hy eu (rw em at ev) e0 e1 e2 e3 in
+    let small : Small r = (omega arith, omega arith, omega arith, omega arith) in
+    let i = wordBits-inj r (cutOf a n) small (small-cutOf a n) (e ∙ sym (wordBits-cutOf a n)) in
+    cut-blank a r (λ j. record { width = n; w0 = i .0 j; w1 = i .1 j; w2 = i .2 j; w3 = i .3 j }) h g e

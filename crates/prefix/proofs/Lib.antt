@@ -1,2 +1,3 @@
 pub mod WordsLaws
+pub mod HalvesLaws
 pub mod KeysLaws

@@ -6,8 +6,10 @@
 --   Valid p         the same as a fact, with its parts
 --   cutOf a n       the prefix of the first n bits of a
 --   Validity, Shared, Cut   the contracts of `valid`, `shared` and `cut`
+--   High p x, Low p x   the number x is the first 64 bits of p, the last 64
+--   Parting x y i r   the contract of `parting`
 -- Assumes nothing.
-use Prim.Native.Nat.{ℕ, _-_, _≤_}
+use Prim.Native.Nat.{ℕ, _-_, _≤_, _<_}
 use mathlib.Core.Path.{_≡_}
 use mathlib.Core.Bool.{Bool, true, _&&_}
 use mathlib.Core.List.{_++_}
@@ -63,3 +65,15 @@ pub record Cut (a : Prefix) (n : ℕ) (r : Prefix) : Type 0 where
   pub width : r .width ≡ n
   pub string : stringOf r ≡ take n (stringOf a)
   pub valid : Valid r
+
+abbrev pub High : Prefix → ℕ → Type 0
+High p x = bitsOf 64 x ≡ take 64 (wordBits p)
+
+abbrev pub Low : Prefix → ℕ → Type 0
+Low p x = bitsOf 64 x ≡ drop 64 (wordBits p)
+
+-- r says whether x and y, of 64 bits, part after the bit i, at it or before it
+pub record Parting (x y i r : ℕ) : Type 0 where
+  pub after : r ≡ 0 → i < length (lcp (bitsOf 64 x) (bitsOf 64 y))
+  pub at : r ≡ 1 → length (lcp (bitsOf 64 x) (bitsOf 64 y)) ≡ i
+  pub before : 1 < r → length (lcp (bitsOf 64 x) (bitsOf 64 y)) < i

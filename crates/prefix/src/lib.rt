@@ -1,15 +1,16 @@
-// Prefixes of at most 128 bits in four words, by value. Every operation goes word by word, with no
-// loop over bits, and is proved against the bit string that the prefix is.
+// Prefixes of at most 128 bits in four words, by value. Every operation goes by words, or by halves of
+// 64 bits, with no loop over bits, and is proved against the bit string that the prefix is.
 use bits::Meeting;
 use bits::Order;
-ghost use Prim.Native.Nat.{_-_, _≤_, _<_, min};
+ghost use Prim.Native.Nat.{_-_, _/_, _%_, _≤_, _<_, min};
 ghost use mathlib.Core.Path.{_≡_};
 ghost use mathlib.Core.Bool.{false};
+ghost use mathlib.Core.List.{_++_};
 ghost use lib.ListN.{length, getD, drop};
 ghost use Rattle.bits.specs.Bits.{lcp, order, isPrefix};
 ghost use Rattle.bits.specs.Bits.{meet as meetOf};
 ghost use Rattle.bits.specs.Numbers.{bitsOf, clear, blank, numberOrder, orElse};
-ghost use Rattle.prefix.specs.Keys.{wordBits, stringOf, Valid, Validity, Shared, Cut};
+ghost use Rattle.prefix.specs.Keys.{wordBits, stringOf, Valid, Validity, Shared, Cut, High, Low, Parting};
 
 // The four words have the highest bits first. A value may be any width and any words: `valid` says
 // whether it is a prefix.
@@ -25,11 +26,13 @@ pub struct Prefix {
 pub fn valid(p: Prefix) -> bool
     ensures { λ r. ⌜ Validity p r ⌝ }
 {
-    let c0 = clear_after(p.w0, p.width);
-    let c1 = clear_after(p.w1, minus(p.width, 32));
-    let c2 = clear_after(p.w2, minus(p.width, 64));
-    let c3 = clear_after(p.w3, minus(p.width, 96));
-    (p.width <= 128) & (c0 & (c1 & (c2 & c3)))
+    if p.width < 64 {
+        return clear_after(high(p), p.width) & (low(p) == 0);
+    }
+    if p.width < 128 {
+        return clear_after(low(p), p.width - 64);
+    }
+    p.width == 128
 }
 
 // Bit i of k, the first bit being bit 0.
@@ -37,16 +40,10 @@ pub fn bit(k: Prefix, i: u32) -> bool
     requires { ⌜ (k .width ≤ 128) × (i < k .width) ⌝ }
     ensures { λ r. ⌜ r ≡ getD (stringOf k) i false ⌝ }
 {
-    if i < 32 {
-        return word_bit(k.w0, i);
-    }
     if i < 64 {
-        return word_bit(k.w1, i - 32);
+        return half_bit(high(k), i);
     }
-    if i < 96 {
-        return word_bit(k.w2, i - 64);
-    }
-    word_bit(k.w3, i - 96)
+    half_bit(low(k), i - 64)
 }
 
 // The length of the longest common prefix.
@@ -54,6 +51,17 @@ pub fn shared(a: Prefix, b: Prefix) -> u32
     ensures { λ r. ⌜ Shared a b r ⌝ }
 {
     least(least(a.width, b.width), agree(a, b))
+}
+
+// How many of the 128 bits are the same, from the top.
+pub fn agree(a: Prefix, b: Prefix) -> u32
+    ensures { λ r. ⌜ r ≡ length (lcp (wordBits a) (wordBits b)) ⌝ }
+{
+    let n = same_top(high(a), high(b));
+    if n < 64 {
+        return n;
+    }
+    64 + same_top(low(a), low(b))
 }
 
 // p is a prefix of k.
@@ -69,16 +77,14 @@ pub fn cut(a: Prefix, n: u32) -> Prefix
     requires { ⌜ (a .width ≤ 128) × (n ≤ a .width) ⌝ }
     ensures { λ r. ⌜ Cut a n r ⌝ }
 {
-    let w0 = keep(a.w0, n);
-    let w1 = keep(a.w1, minus(n, 32));
-    let w2 = keep(a.w2, minus(n, 64));
-    let w3 = keep(a.w3, minus(n, 96));
+    let x = keep(high(a), n);
+    let y = keep(low(a), minus(n, 64));
     Prefix {
         width: n,
-        w0,
-        w1,
-        w2,
-        w3,
+        w0: top(x),
+        w1: bottom(x),
+        w2: top(y),
+        w3: bottom(y),
     }
 }
 
@@ -112,43 +118,88 @@ pub fn meet(s: Prefix, k: Prefix) -> Meeting
     Meeting::Equal
 }
 
-// ---- one word
+// ---- the two halves, as numbers of 64 bits
 
-// Bit i of the word x, from the top.
-fn word_bit(x: u32, i: u32) -> bool
-    requires { ⌜ i < 32 ⌝ }
-    ensures { λ r. ⌜ r ≡ getD (bitsOf 32 x) i false ⌝ }
+// The first 64 bits as one number.
+pub fn high(p: Prefix) -> u64
+    ensures { λ r. ⌜ High p r ⌝ }
 {
-    (x >> (31 - i)) % 2 == 1
+    pair(p.w0, p.w1)
 }
 
-// How many of the top bits of two words are the same.
-fn same_top(x: u32, y: u32) -> u32
-    ensures { λ r. ⌜ r ≡ length (lcp (bitsOf 32 x) (bitsOf 32 y)) ⌝ }
+// The last 64 bits as one number.
+fn low(p: Prefix) -> u64
+    ensures { λ r. ⌜ Low p r ⌝ }
 {
-    u32::leading_zeros(x ^ y)
+    pair(p.w2, p.w3)
 }
 
-// The first n bits of the word x, and zeros after them.
-fn keep(x: u32, n: u32) -> u32
-    ensures { λ r. ⌜ bitsOf 32 r ≡ blank n (bitsOf 32 x) ⌝ }
+// Two words as one number, the bits of x above those of y.
+pub fn pair(x: u32, y: u32) -> u64
+    ensures { λ r. ⌜ bitsOf 64 r ≡ bitsOf 32 x ++ bitsOf 32 y ⌝ }
 {
-    if 32 <= n {
+    4_294_967_296 * (x as u64) + (y as u64)
+}
+
+// Whether two halves part after the bit i, at it or before it: 0, 1, or more.
+pub fn parting(x: u64, y: u64, i: u32) -> u64
+    requires { ⌜ i < 64 ⌝ }
+    ensures { λ r. ⌜ Parting x y i r ⌝ }
+{
+    (x ^ y) >> (63 - i)
+}
+
+// How many of the top bits of two halves are the same.
+fn same_top(x: u64, y: u64) -> u32
+    ensures { λ r. ⌜ r ≡ length (lcp (bitsOf 64 x) (bitsOf 64 y)) ⌝ }
+{
+    u64::leading_zeros(x ^ y)
+}
+
+// Bit i of the half x.
+fn half_bit(x: u64, i: u32) -> bool
+    requires { ⌜ i < 64 ⌝ }
+    ensures { λ r. ⌜ r ≡ getD (bitsOf 64 x) i false ⌝ }
+{
+    (x >> (63 - i)) % 2 == 1
+}
+
+// No bit of the half x is set after the first n.
+fn clear_after(x: u64, n: u32) -> bool
+    requires { ⌜ n < 64 ⌝ }
+    ensures { λ r. ⌜ r ≡ clear (drop n (bitsOf 64 x)) ⌝ }
+{
+    x << n == 0
+}
+
+// The first n bits of the half x, and zeros after them.
+fn keep(x: u64, n: u32) -> u64
+    ensures { λ r. ⌜ bitsOf 64 r ≡ blank n (bitsOf 64 x) ⌝ }
+{
+    if 64 <= n {
         return x;
     }
     if n == 0 {
         return 0;
     }
-    let m = 32 - n;
+    let m = 64 - n;
     (x >> m) << m
 }
 
-// No bit of the word x is set after the first n.
-fn clear_after(x: u32, n: u32) -> bool
-    ensures { λ r. ⌜ r ≡ clear (drop n (bitsOf 32 x)) ⌝ }
+// The two words of the half x.
+fn top(x: u64) -> u32
+    ensures { λ r. ⌜ r ≡ x / 4294967296 ⌝ }
 {
-    keep(x, n) == x
+    (x / 4_294_967_296) as u32
 }
+
+fn bottom(x: u64) -> u32
+    ensures { λ r. ⌜ r ≡ x % 4294967296 ⌝ }
+{
+    (x % 4_294_967_296) as u32
+}
+
+// ---- the words, one after the other
 
 fn number_order(x: u32, y: u32) -> Order
     ensures { λ r. ⌜ r ≡ numberOrder x y ⌝ }
@@ -160,27 +211,6 @@ fn number_order(x: u32, y: u32) -> Order
         return Order::After;
     }
     Order::Same
-}
-
-// ---- the four words, one after the other
-
-// How many of the 128 bits are the same, from the top. It stops at the first word that differs.
-fn agree(a: Prefix, b: Prefix) -> u32
-    ensures { λ r. ⌜ r ≡ length (lcp (wordBits a) (wordBits b)) ⌝ }
-{
-    let n0 = same_top(a.w0, b.w0);
-    if n0 < 32 {
-        return n0;
-    }
-    let n1 = same_top(a.w1, b.w1);
-    if n1 < 32 {
-        return 32 + n1;
-    }
-    let n2 = same_top(a.w2, b.w2);
-    if n2 < 32 {
-        return 64 + n2;
-    }
-    96 + same_top(a.w3, b.w3)
 }
 
 // The order o, and that of x and y where o settles nothing.

@@ -1,30 +1,29 @@
--- `prefix::agree` meets its contract: at each word, by whether the words before it are the same.
+-- `prefix::agree` meets its contract: by the first halves, or by the second where the first are the same.
 -- Assumes nothing.
 use native.Mathlib.Omega.{arith}
 use borrow.Author.Needs.{needs}
-use Rattle.prefix.proofs.WordsLaws.{same-le, lcp-word0, lcp-word1, lcp-word2, lcp-word3}
+use Rattle.prefix.proofs.HalvesLaws.{common-most, agree-high, agree-low}
 use Rattle.prefix.proofs.agree.Statement.{statement}
 use Rattle.prefix.proofs.agree.Tie as tie
 
 returns : tie.Need-returns
-returns c = lcp-word0 _ _ _ (search needs) (search needs)
+returns c =
+    let at-high = c .before .before in
+    agree-high _ _ _ _ (at-high .before .high .ensures) (at-high .high2 .ensures) _ (c .before .same-top .ensures) (search needs)
+
+add-result : tie.Need-add-result
+add-result c = let at-low = c .before in omega (arith, c .same-top2 .ensures, common-most (at-low .before .low .result) (at-low .low2 .result))
 
 returns-2 : tie.Need-returns-2
-returns-2 c = lcp-word1 _ _ _ (search needs) (search needs) (search needs)
-
-returns-3 : tie.Need-returns-3
-returns-3 c = lcp-word2 _ _ _ (search needs) (search needs) (search needs) (search needs)
-
-add-result-3 : tie.Need-add-result-3
-add-result-3 c =
-    let start = c .before .before .before .before .before .before .before in
-    omega (arith, same-le (start .args .a .w3) (start .args .b .w3))
-
-returns-4 : tie.Need-returns-4
-returns-4 c = lcp-word3 _ _ _ (search needs) (search needs) (search needs) (search needs)
+returns-2 c =
+    let at-low = c .before in
+    let at-top = at-low .before .before .before in
+    let at-high = at-top .before in
+    agree-low _ _ _ _ (at-high .before .high .ensures) (at-high .high2 .ensures) _ _ _ (at-low .before .low .ensures) (at-low .low2 .ensures)
+    (omega (arith, at-top .same-top .ensures)) (c .same-top2 .ensures)
 
 pub agree-spec : {M : Type 1} → statement M
 agree-spec =
     tie.close
-    (tie.spec (λ c κs. search needs) returns (λ c κs. search needs) (λ c. search needs) returns-2 (λ c κs. search needs) (λ c. search needs) returns-3 (λ c κs. search needs) add-result-3
-    returns-4)
+    (tie.spec (λ c κs. search needs) (λ c κs. search needs) (λ c κs. search needs) returns (λ c κs. search needs) (λ c κs. search needs)
+    (λ c κs. search needs) add-result returns-2)

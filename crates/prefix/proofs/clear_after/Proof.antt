@@ -1,12 +1,12 @@
--- `prefix::clear_after` meets its contract: keeping the first n bits leaves x where nothing is set after.
+-- `prefix::clear_after` meets its contract: a shift by n leaves what stands after the first n bits.
 -- Assumes nothing.
 use borrow.Author.Needs.{needs}
-use Rattle.prefix.proofs.WordsLaws.{eqb-blank}
+use Rattle.prefix.proofs.HalvesLaws.{clear-shifted}
 use Rattle.prefix.proofs.clear_after.Statement.{statement}
 use Rattle.prefix.proofs.clear_after.Tie as tie
 
 returns : tie.Need-returns
-returns c = eqb-blank (c .before .args .n) (c .before .args .x) (c .keep .result) (search needs) (search needs) (search needs)
+returns c = clear-shifted (c .args .n) (c .args .x) (search needs)
 
 pub clear-after-spec : {M : Type 1} → statement M
-clear-after-spec = tie.close (tie.spec (λ c κs. search needs) returns)
+clear-after-spec = tie.close (tie.spec (λ c. search needs) returns)

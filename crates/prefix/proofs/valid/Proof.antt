@@ -1,17 +1,23 @@
--- `prefix::valid` meets its contract: word by word, each is clear after what is left of the width.
+-- `prefix::valid` meets its contract: by the half in which the width ends.
 -- Assumes nothing.
-use Rattle.prefix.proofs.KeysLaws.{valid-promise}
+use borrow.Author.Needs.{needs}
+use Rattle.prefix.proofs.KeysLaws.{valid-short, valid-long, valid-full}
 use Rattle.prefix.proofs.valid.Statement.{statement}
 use Rattle.prefix.proofs.valid.Tie as tie
 
 returns : tie.Need-returns
 returns c =
-    let at-c3 = c .before in
-    let at-c2 = at-c3 .before .before in
-    let at-c1 = at-c2 .before .before in
-    let at-c0 = at-c1 .before .before in
-    valid-promise (at-c0 .before .args .p) _ _ _ _ _ _ _ (at-c1 .before .minus .ensures) (at-c2 .before .minus2 .ensures) (at-c3 .before .minus3 .ensures)
-    (at-c0 .clear-after .ensures) (at-c1 .clear-after2 .ensures) (at-c2 .clear-after3 .ensures) (at-c3 .clear-after4 .ensures)
+    let at-clear = c .before in
+    valid-short _ _ _ _ (at-clear .before .high .ensures) (c .low .ensures) (search needs) (at-clear .clear-after .ensures) (search needs)
+
+returns-2 : tie.Need-returns-2
+returns-2 c = valid-long _ _ _ (c .before .before .low2 .ensures) (c .clear-after2 .ensures) (search needs) (search needs)
+
+returns-3 : tie.Need-returns-3
+returns-3 c = valid-full _ (search needs)
 
 pub valid-spec : {M : Type 1} → statement M
-valid-spec = tie.close (tie.spec (λ c κs. tt) (λ c κs. tt) (λ c κs. tt) (λ c κs. tt) (λ c κs. tt) (λ c κs. tt) (λ c κs. tt) returns)
+valid-spec =
+    tie.close
+    (tie.spec (λ c κs. search needs) (λ c κs. search needs) (λ c κs. search needs) returns (λ c κs. search needs) (λ c κs. search needs) returns-2
+    returns-3)
