@@ -1,6 +1,8 @@
 pub mod WalkingLaws
 pub mod SurveyLaws
 pub mod StepsLaws
+pub mod DescentLaws
+pub mod PassingLaws
 pub mod PathsLaws
 pub mod HoldsLaws
 pub mod RestsLaws

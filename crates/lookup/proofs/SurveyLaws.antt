@@ -2,16 +2,16 @@
 -- and what is written in the lent trail.
 -- No contract cites this file.
 -- Assumes nothing.
-use Prim.Native.Nat.{ℕ, suc, _+_, _%_, _≤_, _<_}
+use Prim.Native.Nat.{ℕ, suc, _+_, _≤_, _<_}
 use native.Mathlib.Nat.{zero-add}
 use native.Mathlib.Numerals.{add-one}
 use mathlib.Core.Path.{_≡_, refl, sym, ap, subst, _∙_}
-use mathlib.Core.Bool.{Bool, true, false, not, cond, _&&_}
+use mathlib.Core.Bool.{Bool, true, false, not, cond}
 use mathlib.Core.List.{List}
-use lib.Dec.{ltb, leb, eqb}
+use lib.Dec.{ltb}
 use lib.ListN.{length, getD, set}
 use lib.Seq.{paste, paste-suc}
-use borrow.Author.Tests.{ltb-false, leb-true, not-true, not-false, lt-ltb, le-ltb}
+use borrow.Author.Tests.{ltb-false, not-true, not-false, lt-ltb, le-ltb}
 use Rattle.prefix.specs.Keys.{isValid, Validity}
 use Rattle.prefix.specs.declared.Prefix.{Prefix}
 use Rattle.prefix.proofs.KeysLaws.{isValid-true}
@@ -25,13 +25,8 @@ use Rattle.lookup.proofs.WalkingLaws.{Short, walkFrom-short, length-wal
 
 -- ---- surveyOn
 
-and-left : (a b : Bool) → (a && b) ≡ true → a ≡ true
-and-left true b h = refl
-and-left false b h = h
-
-pub isTable-least : (n : ℕ) (b : Bool) → b ≡ isTable n → not b ≡ false → 16 ≤ n
-unfolding isTable
-isTable-least n b e t = leb-true 16 n (and-left (leb 16 n) (leb n 524288 && eqb (n % 8) 0) (sym e ∙ not-false b t))
+pub isTable-tested : (n : ℕ) (b : Bool) → b ≡ isTable n → not b ≡ false → isTable n ≡ true
+isTable-tested n b e t = sym e ∙ not-false b t
 
 -- one law for each way out, where b and c are what the tests of the length and of the key say
 module _ (ws : List ℕ) (k : Prefix) (room : ℕ) (ts : List ℕ) (b : Bool) (e : b ≡ isTable (length ws)) where

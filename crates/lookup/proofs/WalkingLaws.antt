@@ -9,16 +9,16 @@ use mathlib.Core.Path.{_≡_, refl, sym, ap, subst, _∙_}
 use mathlib.Core.Bool.{Bool, true, false, not, cond}
 use mathlib.Core.List.{List}
 use lib.Dec.{ltb, eqb}
-use lib.ListN.{length, getD, set, length-set}
+use lib.ListN.{length, set, length-set}
 use borrow.Author.Tests.{ltb-false, not-true, not-false, lt-ltb, le-ltb, eq-eqb, ne-eqb}
+use Rattle.bits.specs.Bits.{lcp}
 use Rattle.bits.proofs.BitsLaws.{length-lcp}
-use Rattle.prefix.specs.Keys.{stringOf, Shared}
+use Rattle.prefix.specs.Keys.{wordBits, stringOf, Shared}
 use Rattle.prefix.specs.declared.Prefix.{Prefix}
 use Rattle.prefix.proofs.KeysLaws.{length-stringOf}
-use Rattle.records.specs.Layout.{roomOf, recordAt, headerAt, keyOf}
+use Rattle.records.specs.Layout.{roomOf, recordAt, keyOf}
 use Rattle.records.specs.declared.Record.{Record}
-use Rattle.records.specs.declared.Header.{Header}
-use Rattle.lookup.specs.Walking.{sharedOn, sideOn, downOn, seenOn, stepOn, Survey, afterOn, walkOn, startOn, walkFrom}
+use Rattle.lookup.specs.Walking.{sharedOn, agreeOn, sideOn, downOn, seenOn, stepOn, Survey, afterOn, walkOn, startOn, walkFrom}
 use Rattle.lookup.specs.declared.Walk.{Walk}
 use Rattle.lookup.specs.declared.Step.{Step}
 use Rattle.lookup.specs.declared.Step.the-variants.{Down, Last, End, Bad}
@@ -39,17 +39,21 @@ sharedOn-most r k h = omega (arith, length-lcp (stringOf (keyOf r)) (stringOf k)
 -- ---- sideOn
 
 module _ (r : Record) (k : Prefix) (w : ℕ) where
-  pub sideOn-right : (b : Bool) → b ≡ getD (stringOf k) w false → w < k .width → b ≡ true → r .right ≡ sideOn r k w
+  pub sideOn-left : (a : ℕ) → a ≡ agreeOn r k → w < k .width → w < a → r .left ≡ sideOn r k w
   unfolding sideOn
-  sideOn-right b e h t = simp (lt-ltb _ _ h, ← e, t)
+  sideOn-left a e h t = simp (lt-ltb _ _ h, ← e, lt-ltb _ _ t)
 
-  pub sideOn-left : (b : Bool) → b ≡ getD (stringOf k) w false → w < k .width → b ≡ false → r .left ≡ sideOn r k w
+  pub sideOn-right : (a : ℕ) → a ≡ agreeOn r k → w < k .width → a ≤ w → r .right ≡ sideOn r k w
   unfolding sideOn
-  sideOn-left b e h t = simp (lt-ltb _ _ h, ← e, t)
+  sideOn-right a e h t = simp (lt-ltb _ _ h, ← e, le-ltb _ _ t)
 
   pub sideOn-end : k .width ≤ w → 0 ≡ sideOn r k w
   unfolding sideOn
   sideOn-end h = simp (le-ltb _ _ h)
+
+pub agreeOn-agree : (r : Record) (k p : Prefix) (a : ℕ) → p ≡ keyOf r → a ≡ length (lcp (wordBits p) (wordBits k)) → a ≡ agreeOn r k
+unfolding agreeOn
+agreeOn-agree r k p a e h = h ∙ rw e
 
 -- ---- downOn
 
@@ -207,11 +211,6 @@ length-walkOn (suc f) ws k n ts s =
     (λ w d. length-walkOn f ws k (n + 1) (set ts n w) d ∙ length-set ts n w)
 
 -- ---- walkFrom
-
-pub walkOn-start : (ws : List ℕ) (k : Prefix) (ts : List ℕ) (h : Header) → h ≡ headerAt ws
-    → walkOn 130 ws k 0 ts (record { at = 0; up = 0; over = 0; next = h .root; low = 0; best = 0; zone = 0 }) ≡ walkFrom ws k ts
-unfolding walkFrom startOn
-walkOn-start ws k ts h e = rw e
 
 pub walkFrom-short : (ws : List ℕ) (k : Prefix) (ts : List ℕ) → Short (walkFrom ws k ts .out)
 unfolding walkFrom startOn

@@ -1,4 +1,5 @@
 pub mod Walking
+pub mod Descending
 pub mod Paths
 pub mod Fetching
 pub mod Matching

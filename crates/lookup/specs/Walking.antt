@@ -2,6 +2,7 @@
 -- refusals before them.
 -- Paper 01, "The tree of a set", "The lent table" and "Numbered refusals".
 --   sharedOn r k      the bits that a record's key shares with k
+--   agreeOn r k       how many of the 128 bits of the record's key and of k are the same, from the top
 --   sideOn r k w      the link of the side that k goes on by at a node of width w
 --   downOn r k s      where the walk s goes on from a node that is a prefix of k
 --   seenOn r k s      what a step makes of the record that it reads
@@ -15,14 +16,14 @@
 --   leaveOn           what stands in the lent trail after a keyed call
 -- Assumes nothing.
 use Prim.Native.Nat.{ℕ, zero, suc, _+_, _/_}
-use mathlib.Core.Bool.{Bool, false, not, _||_, cond}
+use mathlib.Core.Bool.{Bool, not, _||_, cond}
 use mathlib.Core.List.{List}
 use lib.Dec.{ltb, eqb}
-use lib.ListN.{length, getD, set}
+use lib.ListN.{length, set}
 use lib.Seq.{paste}
 use Rattle.bits.specs.Bits.{lcp}
 use Rattle.bits.specs.Numbers.{odd}
-use Rattle.prefix.specs.Keys.{stringOf, isValid}
+use Rattle.prefix.specs.Keys.{wordBits, stringOf, isValid}
 use Rattle.prefix.specs.declared.Prefix.{Prefix}
 use Rattle.records.specs.Layout.{isTable, roomOf, recordAt, headerAt, keyOf}
 use Rattle.records.specs.declared.Record.{Record}
@@ -36,8 +37,13 @@ use Rattle.lookup.specs.declared.Surveyed.the-variants.{Path, BadLength,
 unfoldable pub sharedOn : Record → Prefix → ℕ
 sharedOn r k = length (lcp (stringOf (keyOf r)) (stringOf k))
 
+unfoldable pub agreeOn : Record → Prefix → ℕ
+agreeOn r k = length (lcp (wordBits (keyOf r)) (wordBits k))
+
+-- "let d be q followed by k's next bit" (q's words are clear after its width: so they agree with k's past
+-- that width exactly where k's next bit is 0)
 unfoldable pub sideOn : Record → Prefix → ℕ → ℕ
-sideOn r k w = cond (ltb w (k .width)) (cond (getD (stringOf k) w false) (r .right) (r .left)) 0
+sideOn r k w = cond (ltb w (k .width)) (cond (ltb w (agreeOn r k)) (r .left) (r .right)) 0
 
 unfoldable pub downOn : Record → Prefix → Walk → Walk
 downOn r k s =

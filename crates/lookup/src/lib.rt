@@ -2,15 +2,16 @@
 // No public call has a `requires`. A walk reads each node of the key's path once, and no other
 // record (docs/READS.md).
 use prefix::Prefix;
-use records::Record;
 ghost use Prim.Native.Nat.{_≤_};
 ghost use mathlib.Core.Path.{_≡_};
 ghost use lib.ListN.{length};
 ghost use lib.Seq.{paste};
-ghost use Rattle.records.specs.Layout.{isTable};
-ghost use Rattle.lookup.specs.Walking.{sideOn, downOn, seenOn, stepOn, walkFrom, surveyOn};
+ghost use Rattle.lookup.specs.Walking.{surveyOn};
 ghost use Rattle.lookup.specs.Fetching.{foundOf, Fetch};
 ghost use Rattle.lookup.specs.Matching.{matchOf, LongestMatch};
+
+mod descent; // the upper part of a walk, in few instructions
+mod steps; // the walk, step by step
 
 // The bytes of a trail that has room for every path.
 pub const TRAIL: usize = 129;
@@ -152,124 +153,7 @@ pub fn survey(table: &[u32], k: Prefix, room: usize, widths: &mut [u8; 129]) -> 
     if room < TRAIL {
         return Surveyed::ShortOut;
     }
-    walk_path(table, k, widths)
-}
-
-// Walks the path of k from the top, and writes the widths of its nodes.
-fn walk_path(table: &[u32], k: Prefix, widths: &mut [u8; 129]) -> Surveyed
-    requires { ⌜ (16 ≤ length (now table)) × (k .width ≤ 128) ⌝ }
-    ensures { λ r. ⌜ walkFrom (now (table .entry)) k (now (widths .entry)) ≡ record { widths = now (widths .exit); out = r } ⌝ }
-{
-    let h = records::read_header(table);
-    let mut n: usize = 0;
-    let mut s = Walk {
-        at: 0,
-        up: 0,
-        over: 0,
-        next: h.root,
-        low: 0,
-        best: 0,
-        zone: 0,
-    };
-    let met = loop {
-        let x = step_at(table, k, s);
-        match x {
-            Step::Down(w, d) => {
-                widths[n] = w as u8;
-                n += 1;
-                s = d;
-            }
-            Step::Last(w, b) => {
-                widths[n] = w as u8;
-                n += 1;
-                break Met::Mismatching(s.next, b);
-            }
-            Step::End => {
-                break Met::Matching(s.at);
-            }
-            Step::Bad => {
-                return Surveyed::Damaged;
-            }
-        }
-    };
-    Surveyed::Path(n, s, met)
-}
-
-// One step: the record of the next link, if there is one.
-fn step_at(table: &[u32], k: Prefix, s: Walk) -> Step
-    requires { ⌜ k .width ≤ 128 ⌝ }
-    ensures { λ r. ⌜ r ≡ stepOn (now (table .entry)) k s ⌝ }
-{
-    let next = s.next;
-    if next == 0 {
-        return Step::End;
-    }
-    if !records::has_room(table.len(), next) {
-        return Step::Bad;
-    }
-    seen(records::read_record(table, next), k, s)
-}
-
-// What a step makes of the record that it reads.
-fn seen(r: Record, k: Prefix, s: Walk) -> Step
-    requires { ⌜ k .width ≤ 128 ⌝ }
-    ensures { λ x. ⌜ x ≡ seenOn r k s ⌝ }
-{
-    let w = r.tag / 2;
-    if 128 < w {
-        return Step::Bad;
-    }
-    let b = prefix::shared(records::key_of(r), k);
-    if b < s.low {
-        return Step::Bad;
-    }
-    if b < w {
-        return Step::Last(w, b);
-    }
-    Step::Down(w, down(r, k, s))
-}
-
-// Where the walk goes on from a node that is a prefix of the key.
-fn down(r: Record, k: Prefix, s: Walk) -> Walk
-    requires { ⌜ k .width ≤ 128 ⌝ }
-    ensures { λ d. ⌜ d ≡ downOn r k s ⌝ }
-{
-    let w = r.tag / 2;
-    let next = side(r, k, w);
-    if r.tag % 2 == 1 {
-        return Walk {
-            at: s.next,
-            up: s.at,
-            over: s.up,
-            next,
-            low: w + 1,
-            best: w + 1,
-            zone: r.zone,
-        };
-    }
-    Walk {
-        at: s.next,
-        up: s.at,
-        over: s.up,
-        next,
-        low: w + 1,
-        best: s.best,
-        zone: s.zone,
-    }
-}
-
-// The link of the side that k goes on by at a node of width w, or 0 where k ends there.
-fn side(r: Record, k: Prefix, w: u32) -> u32
-    requires { ⌜ k .width ≤ 128 ⌝ }
-    ensures { λ l. ⌜ l ≡ sideOn r k w ⌝ }
-{
-    if w < k.width {
-        if prefix::bit(k, w) {
-            return r.right;
-        }
-        return r.left;
-    }
-    0
+    steps::walk_path(table, k, widths)
 }
 
 // Copies the first n bytes.

@@ -101,7 +101,7 @@ recordAt-ext ws us l j h =
 
 -- the words of a record as they stand in a table, so that they alone are one
 abbrev wordsOf : Record → List ℕ
-wordsOf r = r .w0 ∷ r .w1 ∷ r .w2 ∷ r .w3 ∷ r .zone ∷ r .left ∷ r .right ∷ r .tag ∷ []
+wordsOf r = r .w1 ∷ r .w0 ∷ r .w3 ∷ r .w2 ∷ r .zone ∷ r .left ∷ r .right ∷ r .tag ∷ []
 
 recordAt-wordsOf : (r : Record) → recordAt (wordsOf r) 0 ≡ r
 unfolding recordAt

@@ -1,4 +1,5 @@
 pub mod LayoutLaws
+pub mod FieldsLaws
 pub mod OnceLaws
 pub mod HoldsLaws
 pub mod GraftLaws

@@ -45,13 +45,14 @@ roomOf n l = ltb 0 l && ltb l (n / 8)
 pub record Inside (ws : List ℕ) (l : ℕ) : Type 0 where
   pub fits : place l + 8 ≤ length ws
 
+-- (of each half of the key the lower word stands first)
 unfoldable pub recordAt : List ℕ → ℕ → Record
 recordAt ws l =
     record {
-      w0 = getD ws (place l) 0;
-      w1 = getD ws (place l + 1) 0;
-      w2 = getD ws (place l + 2) 0;
-      w3 = getD ws (place l + 3) 0;
+      w0 = getD ws (place l + 1) 0;
+      w1 = getD ws (place l) 0;
+      w2 = getD ws (place l + 3) 0;
+      w3 = getD ws (place l + 2) 0;
       zone = getD ws (place l + 4) 0;
       left = getD ws (place l + 5) 0;
       right = getD ws (place l + 6) 0;
@@ -63,7 +64,7 @@ headerAt ws = record { root = getD ws 0 0; spare = getD ws 1 0 }
 
 unfoldable pub withRecord : List ℕ → ℕ → Record → List ℕ
 withRecord ws l r =
-    set (set (set (set (set (set (set (set ws (place l) (r .w0)) (place l + 1) (r .w1)) (place l + 2) (r .w2)) (place l + 3) (r .w3))
+    set (set (set (set (set (set (set (set ws (place l) (r .w1)) (place l + 1) (r .w0)) (place l + 2) (r .w3)) (place l + 3) (r .w2))
     (place l + 4) (r .zone)) (place l + 5) (r .left)) (place l + 6) (r .right)) (place l + 7) (r .tag)
 
 unfoldable pub withHeader : List ℕ → Header → List ℕ

@@ -2,10 +2,12 @@
 // reads and writes a table through these functions, so the layout stands here alone
 // (docs/LAYOUT.md draws it).
 use prefix::Prefix;
-ghost use Prim.Native.Nat.{_≤_};
+ghost use Prim.Native.Nat.{ℕ, _+_, _≤_};
 ghost use mathlib.Core.Path.{_≡_};
+ghost use lib.Dec.{eqb};
 ghost use lib.ListN.{length};
-ghost use Rattle.records.specs.Layout.{isTable, roomOf, Inside, recordAt, headerAt, withRecord, withHeader};
+ghost use Rattle.prefix.specs.Keys.{High};
+ghost use Rattle.records.specs.Layout.{isTable, place, roomOf, Inside, recordAt, headerAt, withRecord, withHeader, sideOf};
 ghost use Rattle.records.specs.Layout.{keyOf as keyIn};
 
 // One node record. A link is 0 for none, else the number of a record, the first being 1. The tag is
@@ -63,17 +65,17 @@ pub fn read_header(table: &[u32]) -> Header
     }
 }
 
-// The record of a link: the one place where a node record is read.
+// The record of a link: the one place where a whole node record is read.
 pub fn read_record(table: &[u32], l: u32) -> Record
     requires { ⌜ Inside (now table) l ⌝ }
     ensures { λ r. ⌜ r ≡ recordAt (now (table .entry)) l ⌝ }
 {
     let at = RECORD * (l as usize);
     Record {
-        w0: table[at],
-        w1: table[at + 1],
-        w2: table[at + 2],
-        w3: table[at + 3],
+        w0: table[at + 1],
+        w1: table[at],
+        w2: table[at + 3],
+        w3: table[at + 2],
         zone: table[at + 4],
         left: table[at + 5],
         right: table[at + 6],
@@ -95,10 +97,10 @@ pub fn write_record(table: &mut [u32], l: u32, r: Record)
     ensures { λ _. ⌜ now (table .exit) ≡ withRecord (now (table .entry)) l r ⌝ }
 {
     let at = RECORD * (l as usize);
-    table[at] = r.w0;
-    table[at + 1] = r.w1;
-    table[at + 2] = r.w2;
-    table[at + 3] = r.w3;
+    table[at] = r.w1;
+    table[at + 1] = r.w0;
+    table[at + 2] = r.w3;
+    table[at + 3] = r.w2;
     table[at + 4] = r.zone;
     table[at + 5] = r.left;
     table[at + 6] = r.right;
@@ -116,4 +118,40 @@ pub fn key_of(r: Record) -> Prefix
         w2: r.w2,
         w3: r.w3,
     }
+}
+
+// ---- one field of a record, by the word that the record starts at: a walk reads no more than it needs
+
+pub fn tag_at(table: &[u32], at: usize) -> u32
+    requires { ⌜ at + 8 ≤ length (now table) ⌝ }
+    ensures { λ r. ⌜ ((l : ℕ) → at ≡ place l → r ≡ recordAt (now (table .entry)) l .tag) ⌝ }
+{
+    table[at + 7]
+}
+
+pub fn zone_at(table: &[u32], at: usize) -> u32
+    requires { ⌜ at + 8 ≤ length (now table) ⌝ }
+    ensures { λ r. ⌜ ((l : ℕ) → at ≡ place l → r ≡ recordAt (now (table .entry)) l .zone) ⌝ }
+{
+    table[at + 4]
+}
+
+// The first half of the key as one number. Its two words stand side by side, the lower one first, so
+// that a machine with such an order of bytes reads them as one.
+pub fn high_at(table: &[u32], at: usize) -> u64
+    requires { ⌜ at + 8 ≤ length (now table) ⌝ }
+    ensures { λ r. ⌜ ((l : ℕ) → at ≡ place l → High (keyIn (recordAt (now (table .entry)) l)) r) ⌝ }
+{
+    prefix::pair(table[at + 1], table[at])
+}
+
+// The link of the side of 0, or of the side of 1. Both are read, so that the next record's place waits for
+// one choice and not for another read.
+pub fn side_at(table: &[u32], at: usize, x: usize) -> u32
+    requires { ⌜ (at + 8 ≤ length (now table)) × (x ≤ 1) ⌝ }
+    ensures { λ r. ⌜ ((l : ℕ) → at ≡ place l → r ≡ sideOf (recordAt (now (table .entry)) l) (eqb x 1)) ⌝ }
+{
+    let left = table[at + 5];
+    let right = table[at + 6];
+    if x == 0 { left } else { right }
 }

@@ -11,7 +11,8 @@ use std::collections::BTreeSet;
 fn reported(table: &[u32], nodes: &[(u32, [u32; 4])], spares: usize) -> BTreeSet<usize> {
     let mut kept = BTreeSet::from([0]);
     for (l, record) in table.chunks_exact(8).enumerate().skip(1) {
-        let node = nodes.iter().any(|(width, words)| record[7] / 2 == *width && record[..4] == words[..]);
+        let key = [record[1], record[0], record[3], record[2]];
+        let node = nodes.iter().any(|(width, words)| record[7] / 2 == *width && key == *words);
         if node {
             kept.insert(l);
         }

@@ -1,7 +1,7 @@
 -- `lookup::survey` meets its contract: the tests are those of the definition, in its order.
 -- Assumes nothing.
 use borrow.Author.Needs.{needs}
-use Rattle.lookup.proofs.SurveyLaws.{isTable-least, validity-narrow, surveyOn-length, surveyOn-prefix, surveyOn-room, surveyOn-walk}
+use Rattle.lookup.proofs.SurveyLaws.{isTable-tested, validity-narrow, surveyOn-length, surveyOn-prefix, surveyOn-room, surveyOn-walk}
 use Rattle.lookup.proofs.survey.Statement.{statement}
 use Rattle.lookup.proofs.survey.Tie as tie
 
@@ -21,7 +21,7 @@ returns-3 c =
 walk-path-requires : tie.Need-walk-path-requires
 walk-path-requires c κs =
     let at-valid = c .before .before .before in
-    (isTable-least _ _ (at-valid .before .before .is-table .ensures) (search needs), validity-narrow _ _ (at-valid .valid .ensures) (search needs))
+    (isTable-tested _ _ (at-valid .before .before .is-table .ensures) (search needs), validity-narrow _ _ (at-valid .valid .ensures) (search needs))
 
 returns-4 : tie.Need-returns-4
 returns-4 c =

@@ -1,9 +1,9 @@
--- `lookup::seen` meets its contract: what `prefix::shared` gives are the bits that the definition counts.
+-- `lookup::steps::seen` meets its contract: what `prefix::shared` gives are the bits that the definition counts.
 -- Assumes nothing.
 use borrow.Author.Needs.{needs}
 use Rattle.lookup.proofs.WalkingLaws.{seenOn-wide, seenOn-low, seenOn-last, seenOn-down}
-use Rattle.lookup.proofs.seen.Statement.{statement}
-use Rattle.lookup.proofs.seen.Tie as tie
+use Rattle.lookup.proofs.steps.seen.Statement.{statement}
+use Rattle.lookup.proofs.steps.seen.Tie as tie
 
 returns : tie.Need-returns
 returns c = seenOn-wide _ _ _ (search needs)

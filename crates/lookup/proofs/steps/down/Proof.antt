@@ -1,9 +1,9 @@
--- `lookup::down` meets its contract: a stored node is the best so far, and a branch leaves it as it was.
+-- `lookup::steps::down` meets its contract: a stored node is the best so far, and a branch leaves it as it was.
 -- Assumes nothing.
 use borrow.Author.Needs.{needs}
 use Rattle.lookup.proofs.WalkingLaws.{downOn-stored, downOn-branch}
-use Rattle.lookup.proofs.down.Statement.{statement}
-use Rattle.lookup.proofs.down.Tie as tie
+use Rattle.lookup.proofs.steps.down.Statement.{statement}
+use Rattle.lookup.proofs.steps.down.Tie as tie
 
 returns : tie.Need-returns
 returns c = downOn-stored _ _ _ _ (search needs) (search needs)

@@ -1,10 +1,10 @@
--- `lookup::step_at` meets its contract: the next link is none, or outside the words, or its record is read.
+-- `lookup::steps::step_at` meets its contract: the next link is none, or outside the words, or its record is read.
 -- Assumes nothing.
 use borrow.Author.Needs.{needs}
 use Rattle.records.proofs.LayoutLaws.{inside-tested}
 use Rattle.lookup.proofs.WalkingLaws.{stepOn-end, stepOn-outside, stepOn-inside}
-use Rattle.lookup.proofs.step_at.Statement.{statement}
-use Rattle.lookup.proofs.step_at.Tie as tie
+use Rattle.lookup.proofs.steps.step_at.Statement.{statement}
+use Rattle.lookup.proofs.steps.step_at.Tie as tie
 
 returns : tie.Need-returns
 returns c = stepOn-end _ _ _ (search needs)

@@ -1,0 +1,115 @@
+-- The laws of a descent: what a test of a record shows, what a descent stands for, and where the walk goes on from
+-- it. No contract cites this file.
+-- Assumes nothing.
+use Prim.Native.Nat.{ℕ, _+_, _-_, _*_, _/_, _%_, _^_, _≤_, _<_}
+use native.Mathlib.Omega.{arith}
+use mathlib.Core.Path.{_≡_, sym, ap, subst, _∙_}
+use mathlib.Core.Bool.{true, cond}
+use mathlib.Core.List.{List}
+use lib.Dec.{eqb}
+use lib.ListN.{length}
+use borrow.Author.Tests.{eq-eqb, ne-eqb}
+use Rattle.bits.specs.Numbers.{odd}
+use Rattle.prefix.specs.Keys.{High, Parting}
+use Rattle.prefix.specs.declared.Prefix.{Prefix}
+use Rattle.prefix.proofs.HalvesLaws.{agree-after, agree-at}
+use Rattle.records.specs.Layout.{isTable, place, recordAt, headerAt, keyOf, sideOf}
+use Rattle.records.specs.declared.Header.{Header}
+use Rattle.records.proofs.LayoutLaws.{isTable-true}
+use Rattle.lookup.specs.Walking.{agreeOn, walkOn, walkFrom}
+use Rattle.lookup.specs.Descending.{Whole, Held, Passed, Turned, pastOn, nextIn, bestIn, zoneIn, walkIn, Descended}
+use Rattle.lookup.specs.declared.Walk.{Walk}
+use Rattle.lookup.specs.declared.descent.Descent.{Descent}
+use Rattle.lookup.specs.declared.descent.Turn.{Turn}
+use Rattle.lookup.specs.declared.descent.Turn.the-variants.{On}
+
+-- ---- turn_at
+
+pub whole-room : (ws : List ℕ) (at : ℕ) → isTable (length ws) ≡ true → Whole at → at < length ws → at + 8 ≤ length ws
+whole-room ws at t w h = let f = isTable-true (length ws) t in omega arith
+
+pub room-most : (ws : List ℕ) (at : ℕ) → isTable (length ws) ≡ true → at + 8 ≤ length ws → at < 524288
+room-most ws at t h = let f = isTable-true (length ws) t in omega arith
+
+module _ (ws : List ℕ) (k : Prefix) (at low tag : ℕ) (w : Whole at) (room : at + 8 ≤ length ws) where
+  pub passed-turn : (half hi own x : ℕ) → (at ≡ 0 → ⊥) → ((l : ℕ) → at ≡ place l → tag ≡ recordAt ws l .tag)
+      → ((l : ℕ) → at ≡ place l → High (keyOf (recordAt ws l)) hi) → High k own → Parting hi own (tag / 2) x
+      → low ≤ tag / 2 → tag / 2 < half → (half ≤ k .width + 1) × (half ≤ 64) → x ≤ 1 → Passed ws k at low tag x
+  unfolding agreeOn
+  passed-turn half hi own x ne t h g p f e q s =
+      let early : tag / 2 < 64 = omega arith in
+      record {
+        some-record = omega arith;
+        room = room;
+        tag-is = t (at / 8) w;
+        grown = f;
+        wider = omega arith;
+        early = early;
+        sides = s;
+        left = agree-after (keyOf (recordAt ws (at / 8))) k hi own (h (at / 8) w) g (tag / 2) x early p;
+        right = agree-at (keyOf (recordAt ws (at / 8))) k hi own (h (at / 8) w) g (tag / 2) x early p;
+      }
+
+pub turned-passed : (ws : List ℕ) (k : Prefix) (at low : ℕ) (x : Turn) (tag side : ℕ) → Turned ws k at low x → x ≡ On tag side
+    → Passed ws k at low tag side
+turned-passed ws k at low x tag side t e = subst (Turned ws k at low) e t
+
+-- ---- best_at, zone_at and walk_of
+
+module _ (ws : List ℕ) (at : ℕ) where
+  pub bestIn-none : at ≡ 0 → 0 ≡ bestIn ws at
+  unfolding bestIn
+  bestIn-none e = rw (eq-eqb at 0 e)
+
+  pub zoneIn-none : at ≡ 0 → 0 ≡ zoneIn ws at
+  unfolding zoneIn
+  zoneIn-none e = rw (eq-eqb at 0 e)
+
+  module _ (h : Held ws at) (ne : at ≡ 0 → ⊥) (z : ℕ) where
+    pub bestIn-some : ((l : ℕ) → at ≡ place l → z ≡ recordAt ws l .tag) → z / 2 + 1 ≡ bestIn ws at
+    unfolding bestIn
+    bestIn-some e = rw (ne-eqb at 0 ne, ← e (at / 8) (h .whole))
+
+    pub zoneIn-some : ((l : ℕ) → at ≡ place l → z ≡ recordAt ws l .zone) → z ≡ zoneIn ws at
+    unfolding zoneIn
+    zoneIn-some e = rw (ne-eqb at 0 ne) (e (at / 8) (h .whole))
+
+pub walkIn-of : (ws : List ℕ) (k : Prefix) (d : Descent) (a u o n b z : ℕ) → a ≡ d .last % 1048576 / 8
+    → u ≡ d .last / 1048576 % 1048576 / 8 → o ≡ d .last / 1099511627776 % 1048576 / 8 → n ≡ nextIn k d → b ≡ bestIn ws (d .held)
+    → z ≡ zoneIn ws (d .held) → record { at = a; up = u; over = o; next = n; low = d .low; best = b; zone = z } ≡ walkIn ws k d
+unfolding walkIn
+walkIn-of ws k d a u o n b z ea eu eo en eb ez = rw (ea, eu, eo, en, eb, ez)
+
+pub nextIn-own : (k : Prefix) (d : Descent) → d .low ≡ k .width + 1 → 0 ≡ nextIn k d
+unfolding nextIn
+nextIn-own k d e = rw (eq-eqb (d .low) (k .width + 1) e)
+
+pub nextIn-on : (k : Prefix) (d : Descent) → (d .low ≡ k .width + 1 → ⊥) → d .next / 8 ≡ nextIn k d
+unfolding nextIn
+nextIn-on k d ne = rw (ne-eqb (d .low) (k .width + 1) ne)
+
+-- ---- past
+
+pub pastOn-past : (ws : List ℕ) (d : Descent) (tag side l h : ℕ) → Whole (d .next)
+    → ((j : ℕ) → d .next ≡ place j → l ≡ sideOf (recordAt ws j) (eqb side 1)) → h ≡ cond (odd tag) (d .next) (d .held) → l < 2 ^ 32
+    → (record { next = 8 * l; held = h; low = tag / 2 + 1; last = d .last * 1048576 % 2 ^ 64 + d .next; n = d .n + 1 }
+    ≡ pastOn ws d tag side) × (8 * l / 8 < 2 ^ 32)
+unfolding pastOn
+pastOn-past ws d tag side l h w e f b = (rw (f, ← e (d .next / 8) w), omega arith)
+
+pub low-past : (ws : List ℕ) (d : Descent) (tag side : ℕ) (r : Descent) → r ≡ pastOn ws d tag side → r .low ≡ tag / 2 + 1
+unfolding pastOn
+low-past ws d tag side r e = rw e
+
+-- ---- where the walk goes on
+
+pub header-root : (ws : List ℕ) (h : Header) → h ≡ headerAt ws → h .root ≡ headerAt ws .root
+header-root ws h e = ap (λ (x : Header). x .root) e
+
+pub walkFrom-descended : (ws : List ℕ) (k : Prefix) (ts after : List ℕ) (d : Descent) (s : Walk) → Descended ws k ts d after → s ≡ walkIn ws k d
+    → walkFrom ws k ts ≡ walkOn (130 - d .n) ws k (d .n) after s
+walkFrom-descended ws k ts after d s h e = sym (h .same) ∙ rw e
+
+pub low-walkIn : (ws : List ℕ) (k : Prefix) (d : Descent) (s : Walk) → s ≡ walkIn ws k d → s .low ≡ d .low
+unfolding walkIn
+low-walkIn ws k d s e = rw e

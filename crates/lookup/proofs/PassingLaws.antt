@@ -1,0 +1,176 @@
+-- A node that a descent passes is a step of the walk, so that the loop of `descend` keeps what the walk from the
+-- top comes to. No contract cites this file.
+-- Assumes nothing.
+use Prim.Native.Nat.{ℕ, zero, suc, _+_, _*_, _/_, _%_, _^_, _≤_, _<_, min}
+use native.Mathlib.Nat.{add-zero, mul-mod-left}
+use native.Mathlib.Decide.{decLt}
+use native.Mathlib.Omega.{arith}
+use mathlib.Core.Path.{_≡_, refl, sym, ap, subst, _∙_}
+use mathlib.Core.Bool.{Bool, true, false, cond}
+use mathlib.Core.List.{List}
+use lib.Dec.{eqb, ltb}
+use lib.ListN.{length, set}
+use lib.Pow.{mod-pow-add, shl-shr, shr-shr, high, low, field, mod-mod-pow}
+use borrow.Author.Tests.{lt-ltb, le-ltb, eq-eqb, ne-eqb}
+use Rattle.bits.specs.Numbers.{odd}
+use Rattle.bits.proofs.BitsLaws.{length-lcp-take}
+use Rattle.prefix.specs.Keys.{wordBits, stringOf}
+use Rattle.prefix.specs.declared.Prefix.{Prefix}
+use Rattle.records.specs.Layout.{isTable, place, recordAt, headerAt, keyOf, sideOf}
+use Rattle.records.specs.declared.Record.{Record}
+use Rattle.records.proofs.LayoutLaws.{isTable-true, room-roomOf}
+use Rattle.lookup.specs.Walking.{sharedOn, agreeOn, sideOn, downOn, stepOn, startOn, walkFrom}
+use Rattle.lookup.specs.Descending.{Held, Passed, pastOn, nextIn, bestIn, zoneIn, walkIn, Sound, Descended}
+use Rattle.lookup.specs.declared.Step.the-variants.{Down}
+use Rattle.lookup.specs.declared.descent.Descent.{Descent}
+use Rattle.lookup.proofs.StepsLaws.{stepOn-node, seenOn-down}
+use Rattle.lookup.proofs.WalkingLaws.{walkOn-down}
+use Rattle.lookup.proofs.DescentLaws.{nextIn-on}
+
+-- ---- the last nodes, when one more is put below them
+
+pushed : (x l : ℕ) → x * 1048576 % 2 ^ 64 + l ≡ x % 2 ^ 44 * 2 ^ 20 + l
+pushed x l =
+    let e : x * 2 ^ 20 % 2 ^ 64 ≡ (x * 2 ^ 20 / 2 ^ 20 % 2 ^ 44) * 2 ^ 20 + x * 2 ^ 20 % 2 ^ 20 = mod-pow-add (x * 2 ^ 20) 44 20 in
+    let d : x * 2 ^ 20 / 2 ^ 20 ≡ x = shl-shr x 20 in
+    let m : x * 2 ^ 20 % 2 ^ 20 ≡ 0 = mul-mod-left x (2 ^ 20) in
+    ap (λ (y : ℕ). y + l) (e ∙ rw (d, m) (add-zero _))
+
+module _ (x l : ℕ) (h : l < 1048576) where
+  pushed-first : l ≡ (x * 1048576 % 2 ^ 64 + l) % 1048576
+  pushed-first = sym (ap (λ (y : ℕ). y % 1048576) (pushed x l) ∙ low (x % 2 ^ 44) 20 h)
+
+  shifted : (x * 1048576 % 2 ^ 64 + l) / 1048576 ≡ x % 2 ^ 44
+  shifted = ap (λ (y : ℕ). y / 1048576) (pushed x l) ∙ high (x % 2 ^ 44) 20 h
+
+  pushed-second : x % 1048576 ≡ (x * 1048576 % 2 ^ 64 + l) / 1048576 % 1048576
+  pushed-second = sym (ap (λ (y : ℕ). y % 1048576) shifted ∙ mod-mod-pow x 24 20)
+
+  pushed-third : x / 1048576 % 1048576 ≡ (x * 1048576 % 2 ^ 64 + l) / 1099511627776 % 1048576
+  pushed-third =
+      let e : (x * 1048576 % 2 ^ 64 + l) / 1099511627776 ≡ x / 2 ^ 20 % 2 ^ 24 =
+      sym (shr-shr (x * 1048576 % 2 ^ 64 + l) 20 20) ∙ ap (λ (y : ℕ). y / 1048576) shifted ∙ field x 24 20 in
+      sym (ap (λ (y : ℕ). y % 1048576) e ∙ mod-mod-pow (x / 2 ^ 20) 4 20)
+
+-- ---- a node passed is a step of the walk
+
+sharedOn-agree : (r : Record) (k : Prefix) → sharedOn r k ≡ min (min (r .tag / 2) (k .width)) (agreeOn r k)
+unfolding sharedOn agreeOn stringOf keyOf
+sharedOn-agree r k = length-lcp-take (r .tag / 2) (k .width) (wordBits (keyOf r)) (wordBits k)
+
+module _ (ws : List ℕ) (k : Prefix) (d : Descent) (tag side : ℕ) (t : isTable (length ws) ≡ true) (s : Sound ws d)
+    (p : Passed ws k (d .next) (d .low) tag side) where
+  abbrev here : Record
+  here = recordAt ws (d .next / 8)
+
+  passed-agree : tag / 2 ≤ agreeOn here k
+  passed-agree = at side (p .sides) (p .left) (p .right)
+    where
+      at : (x : ℕ) → x ≤ 1 → (x ≡ 0 → tag / 2 < agreeOn here k) → (x ≡ 1 → agreeOn here k ≡ tag / 2) → tag / 2 ≤ agreeOn here k
+      at zero h a b = let g = a refl in omega arith
+      at (suc zero) h a b = let g = b refl in omega arith
+      at (suc (suc x)) h a b = absurd (omega arith)
+
+  passed-shared : sharedOn here k ≡ here .tag / 2
+  passed-shared = omega (arith, sharedOn-agree here k, passed-agree, p .wider, p .tag-is)
+
+  passed-side : (x : ℕ) → x ≤ 1 → (x ≡ 0 → tag / 2 < agreeOn here k) → (x ≡ 1 → agreeOn here k ≡ tag / 2)
+      → cond (ltb (here .tag / 2) (agreeOn here k)) (here .left) (here .right) ≡ sideOf here (eqb x 1)
+  passed-side zero h a b = rw (lt-ltb (here .tag / 2) (agreeOn here k) (omega (arith, a refl, p .tag-is)))
+  passed-side (suc zero) h a b = rw (le-ltb (here .tag / 2) (agreeOn here k) (omega (arith, b refl, p .tag-is)))
+  passed-side (suc (suc x)) h a b = absurd (omega arith)
+
+  passed-next : sideOn here k (here .tag / 2) ≡ nextIn k (pastOn ws d tag side)
+  unfolding sideOn nextIn pastOn
+  passed-next = at (decLt (tag / 2) (k .width))
+    where
+      at : Dec (tag / 2 < k .width) → sideOn here k (here .tag / 2) ≡ nextIn k (pastOn ws d tag side)
+      at (yes h) =
+          let w : place (sideOf here (eqb side 1)) / 8 ≡ sideOf here (eqb side 1) = omega arith in
+          rw (lt-ltb (here .tag / 2) (k .width) (omega (arith, p .tag-is)), ne-eqb (tag / 2 + 1) (k .width + 1) (λ q. omega arith), w)
+          (passed-side side (p .sides) (p .left) (p .right))
+      at (no h) =
+          rw (le-ltb (here .tag / 2) (k .width) (omega (arith, p .tag-is)), eq-eqb (tag / 2 + 1) (k .width + 1) (omega (arith, p .wider)))
+
+  passed-held : (z : ℕ) (f : ℕ → ℕ) → z ≡ f (d .next) → cond (odd tag) z (f (d .held)) ≡ f (cond (odd tag) (d .next) (d .held))
+  passed-held z f e = at (odd tag)
+    where
+      at : (b : Bool) → cond b z (f (d .held)) ≡ f (cond b (d .next) (d .held))
+      at true = e
+      at false = refl
+
+  on : nextIn k d ≡ d .next / 8
+  on = sym (nextIn-on k d (λ e. omega (arith, p .grown, p .wider)))
+
+  down-past : downOn here k (walkIn ws k d) ≡ walkIn ws k (pastOn ws d tag side)
+  unfolding downOn walkIn pastOn bestIn zoneIn
+  down-past =
+      let f = isTable-true (length ws) t in
+      let place-most : d .next < 1048576 = omega (arith, p .room) in
+      let some : eqb (d .next) 0 ≡ false = ne-eqb (d .next) 0 (omega (arith, p .some-record)) in
+      let low : here .tag / 2 + 1 ≡ tag / 2 + 1 = rw (p .tag-is) in
+      let best : cond (odd tag) (here .tag / 2 + 1) (bestIn ws (d .held)) ≡ bestIn ws (cond (odd tag) (d .next) (d .held)) =
+      passed-held (here .tag / 2 + 1) (bestIn ws) (rw some) in
+      let zone : cond (odd tag) (here .zone) (zoneIn ws (d .held)) ≡ zoneIn ws (cond (odd tag) (d .next) (d .held)) =
+      passed-held (here .zone) (zoneIn ws) (rw some) in
+      let same : odd (here .tag) ≡ odd tag = ap odd (sym (p .tag-is)) in
+      rw same (λ i.
+      record {
+        at = (on ∙ ap (λ (x : ℕ). x / 8) (pushed-first (d .last) (d .next) place-most)) i;
+        up = ap (λ (x : ℕ). x / 8) (pushed-second (d .last) (d .next) place-most) i;
+        over = ap (λ (x : ℕ). x / 8) (pushed-third (d .last) (d .next) place-most) i;
+        next = passed-next i;
+        low = low i;
+        best = best i;
+        zone = zone i;
+      })
+
+  pub passed-step : Down (tag / 2) (walkIn ws k (pastOn ws d tag side)) ≡ stepOn ws k (walkIn ws k d)
+  unfolding walkIn
+  passed-step =
+      let room = room-roomOf (length ws) (d .next / 8) (omega (arith, p .some-record, s .next-whole)) (omega (arith, p .room, s .next-whole)) in
+      let e : tag / 2 ≡ here .tag / 2 = rw (p .tag-is) in
+      let grown : d .low ≤ sharedOn here k = omega (arith, passed-shared, p .grown) in
+      sym (stepOn-node ws k (walkIn ws k d) (d .next / 8) on room
+      ∙ seenOn-down here k (walkIn ws k d) (omega (arith, p .early)) grown (omega (arith, passed-shared))
+      ∙ rw (down-past, e))
+
+-- ---- the loop of `descend`
+
+pub descended-start : (ws : List ℕ) (k : Prefix) (ts : List ℕ) (root : ℕ) → root ≡ headerAt ws .root → root < 2 ^ 32
+    → Descended ws k ts (record { next = 8 * root; held = 0; low = 0; last = 0; n = 0 }) ts
+unfolding walkIn nextIn bestIn zoneIn walkFrom startOn
+descended-start ws k ts root e h =
+    let whole : 8 * root / 8 ≡ root = omega arith in
+    record {
+      sound = record { next-whole = omega arith; next-link = omega arith; held-at = record { whole = refl; room = λ ne. absurd (ne refl) } };
+      few = omega arith;
+      early = omega arith;
+      same = rw (ne-eqb 0 (k .width + 1) (λ q. omega arith), whole, e);
+    }
+
+module _ (ws : List ℕ) (k : Prefix) (ts after : List ℕ) (d : Descent) (tag side : ℕ) (t : isTable (length ws) ≡ true)
+    (p : Passed ws k (d .next) (d .low) tag side) (h : Descended ws k ts d after) where
+  held-past : Held ws (cond (odd tag) (d .next) (d .held))
+  held-past = at (odd tag)
+    where
+      at : (b : Bool) → Held ws (cond b (d .next) (d .held))
+      at true = record { whole = h .sound .next-whole; room = λ ne. p .room }
+      at false = h .sound .held-at
+
+  descended-on : pastOn ws d tag side .next / 8 < 2 ^ 32 → Descended ws k ts (pastOn ws d tag side) (set after (d .n) (tag / 2))
+  unfolding pastOn
+  descended-on f =
+      record {
+        sound = record { next-whole = omega arith; next-link = f; held-at = held-past };
+        few = omega (arith, h .few, p .grown);
+        early = omega (arith, p .early);
+        same =
+            walkOn-down ws k (d .n) after (walkIn ws k d) (walkFrom ws k ts) (stepOn ws k (walkIn ws k d)) refl (h .same) (omega (arith, h .few, h .early))
+            (tag / 2) (walkIn ws k (pastOn ws d tag side)) (sym (passed-step ws k d tag side t (h .sound) p));
+      }
+
+  pub descended-past : (r : Descent) → (r ≡ pastOn ws d tag side) × (r .next / 8 < 2 ^ 32) → Descended ws k ts r (set after (d .n) (tag / 2))
+  descended-past r e =
+      subst (λ (x : Descent). Descended ws k ts x (set after (d .n) (tag / 2))) (sym (e .0))
+      (descended-on (subst (λ (x : Descent). x .next / 8 < 2 ^ 32) (e .0) (e .1)))

@@ -1,0 +1,92 @@
+-- The upper part of a path walk, which carries less: what it stands for.
+-- Paper 01, "The tree of a set": "all nodes that are prefixes of k, shortest first".
+--   Whole at          a record starts at the word `at`, or none does there
+--   Held ws at        a record of ws starts at the word `at`, or `at` is 0
+--   Passed            what is known of a node that is passed
+--   Turned            the contract of `turn_at`
+--   pastOn            the descent past a node
+--   bestIn, zoneIn    the longest stored prefix so far, by the word at which its record starts
+--   nextIn k d        the next link, none where the key's own node has been passed
+--   walkIn ws k d     the walk that a descent stands for
+--   Sound ws d        what a descent names are records' first words, or none
+--   Descended         the contract of `descend`: the walk from the top comes to what the walk from there does
+-- Assumes nothing.
+use Prim.Native.Nat.{ℕ, _+_, _-_, _*_, _/_, _%_, _^_, _≤_, _<_}
+use mathlib.Core.Path.{_≡_}
+use mathlib.Core.Bool.{true, cond}
+use mathlib.Core.List.{List}
+use lib.Dec.{eqb}
+use lib.ListN.{length}
+use Rattle.bits.specs.Numbers.{odd}
+use Rattle.prefix.specs.declared.Prefix.{Prefix}
+use Rattle.records.specs.Layout.{place, recordAt, sideOf}
+use Rattle.lookup.specs.Walking.{agreeOn, walkOn, walkFrom}
+use Rattle.lookup.specs.declared.Walk.{Walk}
+use Rattle.lookup.specs.declared.descent.Descent.{Descent}
+use Rattle.lookup.specs.declared.descent.Turn.{Turn}
+use Rattle.lookup.specs.declared.descent.Turn.the-variants.{On, Off}
+
+abbrev pub Whole : ℕ → Type 0
+Whole at = at ≡ place (at / 8)
+
+pub record Held (ws : List ℕ) (at : ℕ) : Type 0 where
+  pub whole : Whole at
+  pub room : (at ≡ 0 → ⊥) → at + 8 ≤ length ws
+
+-- what is known of a node that is passed: it is a prefix of the key, and `side` is where the key goes on
+pub record Passed (ws : List ℕ) (k : Prefix) (at low tag side : ℕ) : Type 0 where
+  pub some-record : 0 < at
+  pub room : at + 8 ≤ length ws
+  pub tag-is : tag ≡ recordAt ws (at / 8) .tag
+  pub grown : low ≤ tag / 2
+  pub wider : tag / 2 ≤ k .width
+  pub early : tag / 2 < 64
+  pub sides : side ≤ 1
+  pub left : side ≡ 0 → tag / 2 < agreeOn (recordAt ws (at / 8)) k
+  pub right : side ≡ 1 → agreeOn (recordAt ws (at / 8)) k ≡ tag / 2
+
+abbrev pub Turned : List ℕ → Prefix → ℕ → ℕ → Turn → Type 0
+Turned ws k at low (On tag side) = Passed ws k at low tag side
+Turned ws k at low Off = Unit {0}
+
+unfoldable pub pastOn : List ℕ → Descent → ℕ → ℕ → Descent
+pastOn ws d tag side =
+    record {
+      next = place (sideOf (recordAt ws (d .next / 8)) (eqb side 1));
+      held = cond (odd tag) (d .next) (d .held);
+      low = tag / 2 + 1;
+      last = d .last * 1048576 % 2 ^ 64 + d .next;
+      n = d .n + 1;
+    }
+
+unfoldable pub bestIn : List ℕ → ℕ → ℕ
+bestIn ws at = cond (eqb at 0) 0 (recordAt ws (at / 8) .tag / 2 + 1)
+
+unfoldable pub zoneIn : List ℕ → ℕ → ℕ
+zoneIn ws at = cond (eqb at 0) 0 (recordAt ws (at / 8) .zone)
+
+unfoldable pub nextIn : Prefix → Descent → ℕ
+nextIn k d = cond (eqb (d .low) (k .width + 1)) 0 (d .next / 8)
+
+unfoldable pub walkIn : List ℕ → Prefix → Descent → Walk
+walkIn ws k d =
+    record {
+      at = d .last % 1048576 / 8;
+      up = d .last / 1048576 % 1048576 / 8;
+      over = d .last / 1099511627776 % 1048576 / 8;
+      next = nextIn k d;
+      low = d .low;
+      best = bestIn ws (d .held);
+      zone = zoneIn ws (d .held);
+    }
+
+pub record Sound (ws : List ℕ) (d : Descent) : Type 0 where
+  pub next-whole : Whole (d .next)
+  pub next-link : d .next / 8 < 2 ^ 32
+  pub held-at : Held ws (d .held)
+
+pub record Descended (ws : List ℕ) (k : Prefix) (ts : List ℕ) (d : Descent) (after : List ℕ) : Type 0 where
+  pub sound : Sound ws d
+  pub few : d .n ≤ d .low
+  pub early : d .low ≤ 64
+  pub same : walkOn (130 - d .n) ws k (d .n) after (walkIn ws k d) ≡ walkFrom ws k ts

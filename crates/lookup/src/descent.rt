@@ -1,0 +1,169 @@
+// The upper part of a path walk. The nodes that are prefixes of the key and narrower than 64 bits are
+// passed here, each by one shift of an xor, which says at once that the node is a prefix of the key
+// and on which side the key goes on. Where a record is of another kind the descent stops, and the
+// walk goes on from there with `step_at`, which knows every kind.
+use crate::Walk;
+use prefix::Prefix;
+ghost use Prim.Native.Nat.{_+_, _/_, _%_, _^_, _≤_, _<_};
+ghost use mathlib.Core.Path.{_≡_};
+ghost use mathlib.Core.Bool.{true, cond};
+ghost use lib.ListN.{length};
+ghost use Rattle.records.specs.Layout.{isTable, headerAt};
+ghost use Rattle.lookup.specs.Descending.{Whole, Held, Turned, pastOn, nextIn, bestIn, zoneIn, walkIn, Sound, Descended};
+
+// Where a descent stands, in as few registers as will do. A record goes by the word at which it starts,
+// which is less than 2^20. There is the next one, that of the last stored node (0 for none), how many
+// bits a node must share, those of the last three nodes, 20 bits each and the last one lowest, and how
+// many nodes there were.
+pub struct Descent {
+    pub next: usize,
+    pub held: usize,
+    pub low: u32,
+    pub last: u64,
+    pub n: usize,
+}
+
+// What a record is to a descent: a node to pass, with its tag and the side by which the key goes on,
+// 0 or 1; or anything else.
+pub enum Turn {
+    On(u32, usize),
+    Off,
+}
+
+// Descends from the table's root, and writes the widths of the nodes that it passes.
+pub fn descend(table: &[u32], k: Prefix, root: u32, widths: &mut [u8; 129]) -> Descent
+    requires { ⌜ (isTable (length (now table)) ≡ true) × (k .width ≤ 128) × (root ≡ headerAt (now table) .root) ⌝ }
+    ensures { λ d. ⌜ Descended (now (table .entry)) k (now (widths .entry)) d (now (widths .exit)) ⌝ }
+{
+    let mut d = Descent {
+        next: records::RECORD * (root as usize),
+        held: 0,
+        low: 0,
+        last: 0,
+        n: 0,
+    };
+    loop {
+        let x = turn_at(table, k, d.next, d.low);
+        match x {
+            Turn::Off => {
+                return d;
+            }
+            Turn::On(tag, side) => {
+                let n = d.n;
+                widths[n] = (tag / 2) as u8;
+                d = past(table, d, tag, side);
+            }
+        }
+    }
+}
+
+// Whether the record at the word `at` is a node to pass.
+fn turn_at(table: &[u32], k: Prefix, at: usize, low: u32) -> Turn
+    requires { ⌜ (isTable (length (now table)) ≡ true) × Whole at × (k .width ≤ 128) ⌝ }
+    ensures { λ x. ⌜ Turned (now (table .entry)) k at low x ⌝ }
+{
+    if at == 0 {
+        return Turn::Off;
+    }
+    if table.len() <= at {
+        return Turn::Off;
+    }
+    let tag = records::tag_at(table, at);
+    let w = tag / 2;
+    if w < low {
+        return Turn::Off;
+    }
+    if half(k.width + 1) <= w {
+        return Turn::Off;
+    }
+    let x = prefix::parting(records::high_at(table, at), prefix::high(k), w);
+    if 1 < x {
+        return Turn::Off;
+    }
+    Turn::On(tag, x as usize)
+}
+
+// A width, but no more than 64.
+fn half(w: u32) -> u32
+    ensures { λ r. ⌜ (r ≤ w) × (r ≤ 64) ⌝ }
+{
+    if w < 64 { w } else { 64 }
+}
+
+// The descent past the node where it stands.
+fn past(table: &[u32], d: Descent, tag: u32, side: usize) -> Descent
+    requires { ⌜ Whole (d .next) × (d .next + 8 ≤ length (now table)) × (side ≤ 1) × (d .n < 129) × (d .next < 524288) ⌝ }
+    ensures { λ r. ⌜ (r ≡ pastOn (now (table .entry)) d tag side) × (r .next / 8 < 2 ^ 32) ⌝ }
+{
+    let at = d.next;
+    Descent {
+        next: records::RECORD * (records::side_at(table, at, side) as usize),
+        held: either(tag % 2 == 1, at, d.held),
+        low: tag / 2 + 1,
+        last: (d.last << 20) + (at as u64),
+        n: d.n + 1,
+    }
+}
+
+fn either(first: bool, x: usize, y: usize) -> usize
+    ensures { λ r. ⌜ r ≡ cond first x y ⌝ }
+{
+    if first { x } else { y }
+}
+
+// ---- what a descent stands for
+
+// The walk that goes on from where a descent stopped.
+pub fn walk_of(table: &[u32], k: Prefix, d: Descent) -> Walk
+    requires { ⌜ Sound (now table) d × (k .width ≤ 128) ⌝ }
+    ensures { λ s. ⌜ s ≡ walkIn (now (table .entry)) k d ⌝ }
+{
+    Walk {
+        at: link_of(d.last),
+        up: link_of(d.last >> 20),
+        over: link_of(d.last >> 40),
+        next: next_of(k, d),
+        low: d.low,
+        best: best_at(table, d.held),
+        zone: zone_at(table, d.held),
+    }
+}
+
+// The link of the record at the word that the 20 lowest bits say.
+fn link_of(last: u64) -> u32
+    ensures { λ r. ⌜ r ≡ last % 1048576 / 8 ⌝ }
+{
+    (last % 1_048_576 / 8) as u32
+}
+
+// The next link; none where the key's own node has been passed.
+fn next_of(k: Prefix, d: Descent) -> u32
+    requires { ⌜ (d .next / 8 < 2 ^ 32) × (k .width ≤ 128) ⌝ }
+    ensures { λ r. ⌜ r ≡ nextIn k d ⌝ }
+{
+    if d.low == k.width + 1 {
+        return 0;
+    }
+    (d.next / records::RECORD) as u32
+}
+
+// The width of the node whose record starts at the word `at`, plus 1; 0 where there is none.
+fn best_at(table: &[u32], at: usize) -> u32
+    requires { ⌜ Held (now table) at ⌝ }
+    ensures { λ r. ⌜ r ≡ bestIn (now (table .entry)) at ⌝ }
+{
+    if at == 0 {
+        return 0;
+    }
+    records::tag_at(table, at) / 2 + 1
+}
+
+fn zone_at(table: &[u32], at: usize) -> u32
+    requires { ⌜ Held (now table) at ⌝ }
+    ensures { λ r. ⌜ r ≡ zoneIn (now (table .entry)) at ⌝ }
+{
+    if at == 0 {
+        return 0;
+    }
+    records::zone_at(table, at)
+}
