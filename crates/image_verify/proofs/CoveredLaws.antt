@@ -10,9 +10,10 @@ use mathlib.Core.List.{List}
 use lib.Dec.{ltb}
 use lib.ListN.{length, replicate, length-replicate}
 use borrow.Author.Tests.{lt-ltb, ltb-true, not-true, not-false}
+use Rattle.marks.specs.Marks.{has, Marks, differ}
+use Rattle.marks.proofs.MarksLaws.{has-fresh}
 use Rattle.image_verify.specs.Verifying.{usesOn, agree, startsAt, exactFrom, exactOn}
-use Rattle.image_verify.specs.Marks.{has, Marks, differ, Flipped}
-use Rattle.image_verify.proofs.MarksLaws.{has-fresh}
+use Rattle.image_verify.specs.Starts.{Flipped}
 use Rattle.image_verify.proofs.StretchLaws.{and-false}
 
 -- ---- exactOn

@@ -9,7 +9,6 @@ pub mod PartsLaws
 pub mod ImageLaws
 pub mod AcceptedLaws
 pub mod PromiseLaws
-pub mod MarksLaws
 pub mod ReadingLaws
 pub mod NodesLaws
 pub mod StartsLaws

@@ -13,7 +13,7 @@ use borrow.Author.Tests.{le-leb, lt-leb, eq-eqb, ne-eqb}
 use Rattle.bits.proofs.ListsLaws.{true-T, and-left, and-right}
 use Rattle.metadata.specs.Frames.{numberAt}
 use Rattle.image_verify.specs.Verifying.{readOn, entriesFrom, entriesOn, startsFrom, startsAt}
-use Rattle.image_verify.specs.Marks.{nextOf}
+use Rattle.image_verify.specs.Starts.{nextOf}
 use Rattle.image_verify.specs.declared.Read.{Read}
 use Rattle.image_verify.specs.declared.Read.the-variants.{Entry, Bad}
 

@@ -1,21 +1,21 @@
 -- The laws of the bytes that records mean and of those at which entries start, as they are marked and
 -- turned over stretch by stretch. No contract cites this file.
 -- Assumes nothing.
-use Prim.Native.Nat.{ℕ, _+_, _-_, _*_, _/_, _%_, _^_, _≤_, _<_}
+use Prim.Native.Nat.{ℕ, _+_, _-_, _*_, _≤_, _<_}
 use native.Mathlib.Decide.{decLt}
 use native.Mathlib.Numerals.{add-one}
 use native.Mathlib.Omega.{arith}
 use mathlib.Core.Path.{_≡_, refl, sym, ap, _∙_}
 use mathlib.Core.Bool.{Bool, true, false, _&&_, _||_}
 use mathlib.Core.List.{List}
-use lib.Bits.{bitOr}
 use lib.Dec.{ltb, eqb}
-use lib.ListN.{length, getD, set}
+use lib.ListN.{length}
 use borrow.Author.Tests.{lt-ltb, eq-eqb, ne-eqb, ltb-true, eqb-true, eqb-false}
 use Rattle.metadata.specs.Frames.{numberAt}
+use Rattle.marks.specs.Marks.{has, Marks, differ}
+use Rattle.marks.proofs.MarksLaws.{or-false, differ-false}
 use Rattle.image_verify.specs.Verifying.{readOn, recordNo, amongFirst, usesOn, startsAt}
-use Rattle.image_verify.specs.Marks.{has, Marks, differ, nextOf, Flipped}
-use Rattle.image_verify.proofs.MarksLaws.{or-false, differ-false, marks-or}
+use Rattle.image_verify.specs.Starts.{nextOf, Flipped}
 use Rattle.image_verify.proofs.StartsLaws.{nextOf-nearer, startsAt-before, startsAt-here, startsAt-next}
 
 -- ---- a byte that may be one of the stretch
@@ -60,10 +60,9 @@ module _ (ws : List ℕ) (p base stop : ℕ) (full : length ws ≡ 4096) where
   pub marks-after : stop ≤ p → Marks ws (λ e. has ws e || isHere p base stop e)
   marks-after h = marks-same (not-after p base stop h)
 
-  pub marks-inside : (m : ℕ) → m ≡ 2 ^ ((p - base) % 32) → base ≤ p → p < stop → stop ≤ base + 131072
-      → Marks (set ws ((p - base) / 32) (bitOr (getD ws ((p - base) / 32) 0) m)) (λ e. has ws e || isHere p base stop e)
-  marks-inside m e h l s =
-      let w = marks-or ws (p - base) m full (omega arith) e in
+  pub marks-inside : (ws' : List ℕ) → base ≤ p → p < stop → Marks ws' (λ e. has ws e || eqb (p - base) e)
+      → Marks ws' (λ e. has ws e || isHere p base stop e)
+  marks-inside ws' h l w =
       record { full = w .full; marked = λ i. w .marked i ∙ ap (λ (b : Bool). has ws i || b) (sym (here p base stop h l i)) }
 
 -- ---- usesOn

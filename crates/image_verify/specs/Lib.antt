@@ -1,3 +1,3 @@
 pub mod Verifying
 pub mod Describing
-pub mod Marks
+pub mod Starts

@@ -3,15 +3,16 @@
 // section in stretches of 131,072 bytes, for each of which a local bitmap of 16 KiB marks the bytes
 // that some record means. No public call has a `requires`.
 use metadata::Framed;
-ghost use Prim.Native.Nat.{ℕ, _+_, _*_, _^_, _%_, _≤_, _<_};
+ghost use Prim.Native.Nat.{ℕ, _+_, _*_, _≤_, _<_};
 ghost use mathlib.Core.Path.{_≡_};
 ghost use mathlib.Core.Bool.{_&&_, _||_};
 ghost use lib.Dec.{ltb, eqb};
 ghost use lib.ListN.{length};
 ghost use Rattle.metadata.specs.declared.Framed.the-variants.{Frame};
+ghost use Rattle.marks.specs.Marks.{has, Marks};
 ghost use Rattle.image_verify.specs.Verifying.{readOn, entriesOn, alive as aliveOf, sideOn, belowOn, usesOn, exactOn, zerosOn, treeOn, verifyFrame, VerifyImage};
 ghost use Rattle.image_verify.specs.Describing.{entryCount, Describe};
-ghost use Rattle.image_verify.specs.Marks.{has, Marks, Blank, nextOf, Flipped};
+ghost use Rattle.image_verify.specs.Starts.{nextOf, Flipped};
 
 // The bytes of a stretch: 32 for each word of the bitmap.
 const STRETCH: usize = 131072;
@@ -298,7 +299,7 @@ fn exact(bytes: &[u8], n: u32, end: usize) -> bool
         let stop = stretch(base, end);
         mark_records(bytes, n, base, stop, &mut marks);
         at = flip_starts(bytes, at, end, base, stop, &mut marks);
-        if !blank(&marks) {
+        if !marks::blank(&marks) {
             return false;
         }
         base = stop;
@@ -343,10 +344,7 @@ fn mark_inside(p: usize, base: usize, stop: usize, marks: &mut [u32; 4096])
     if stop <= p {
         return;
     }
-    let d = p - base;
-    let w = marks[d / 32];
-    let m = bit(d);
-    marks[d / 32] = w | m;
+    marks::add(marks, p - base);
 }
 
 // Turns the marks of the entries' starts over, from `first` on up to the stretch's end, and gives the
@@ -364,10 +362,7 @@ fn flip_starts(
 {
     let mut at = first;
     while at < stop {
-        let d = at - base;
-        let w = marks[d / 32];
-        let m = bit(d);
-        marks[d / 32] = w ^ m;
+        marks::flip(marks, at - base);
         at = next_start(bytes, at, end);
     }
     at
@@ -383,25 +378,4 @@ fn next_start(bytes: &[u8], at: usize, end: usize) -> usize
         Read::Bad => end,
         Read::Entry(next, _) => next,
     }
-}
-
-// The bit of a word that marks d.
-fn bit(d: usize) -> u32
-    ensures { λ r. ⌜ r ≡ 2 ^ (d % 32) ⌝ }
-{
-    1 << (d % 32)
-}
-
-// No mark is left.
-fn blank(marks: &[u32]) -> bool
-    ensures { λ b. ⌜ Blank (now (marks .entry)) b ⌝ }
-{
-    let mut i: usize = 0;
-    while i < marks.len() {
-        if marks[i] != 0 {
-            return false;
-        }
-        i += 1;
-    }
-    true
 }

@@ -16,7 +16,8 @@ use Rattle.records.specs.declared.Record.{Record}
 use Rattle.records.proofs.HangingLaws.{hangs-tip, hangs-node}
 use Rattle.image.specs.Tries.{Trie, size, crown, nearer, grow}
 use Rattle.image.proofs.GrowLaws.{size-stalk, size-grow}
-use Rattle.image_write.specs.Parts.{Part, bothEnd}
+use Rattle.image_zones.specs.Used.{bothEnd}
+use Rattle.image_write.specs.Parts.{Part}
 use Rattle.image_write.proofs.PartLaws.{Seen, seen, size-end, size-fork, labels-seen}
 
 -- ---- a node brings at most 129 image nodes: itself and the way to it

@@ -25,7 +25,7 @@ use Rattle.metadata.specs.Frames.{tailOf}
 use Rattle.metadata.specs.Writing.{Put}
 use Rattle.image_data.specs.Runs.{lengthOf, DataAt}
 use Rattle.image_data.proofs.RunsLaws.{length-dataOf-runs}
-use Rattle.image_zones.specs.Blocks.{usedIn}
+use Rattle.image_zones.specs.Used.{usedIn}
 use Rattle.image_zones.proofs.UsedLaws.{usedIn-topped}
 use Rattle.image_write.specs.Writing.{Uses}
 use Rattle.image_write.specs.Planting.{Rooted, Stands}

@@ -19,7 +19,7 @@ use Rattle.records.specs.declared.Record.{Record}
 use Rattle.records.proofs.HangingLaws.{hangs-tip, hangs-node}
 use Rattle.image.specs.Tries.{Trie, leaf, fork, size, stalk, nearer, grow}
 use Rattle.image.proofs.GrowLaws.{crown-cond, size-stalk}
-use Rattle.image_write.specs.Parts.{bothEnd}
+use Rattle.image_zones.specs.Used.{bothEnd}
 
 -- ---- the node at a link, by the record r that is read there
 

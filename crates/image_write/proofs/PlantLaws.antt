@@ -19,7 +19,7 @@ use Rattle.image.specs.Image.{size24, nodeBytes}
 use Rattle.image.specs.Tries.{Trie, leaf, fork, size, stalk, nearer, grow}
 use Rattle.image.proofs.SetsLaws.{sets-before}
 use Rattle.image_data.specs.declared.Runs.{Runs}
-use Rattle.image_write.specs.Parts.{bothEnd}
+use Rattle.image_zones.specs.Used.{bothEnd}
 use Rattle.image_write.specs.Stalks.{stalkBytes, PutStalk}
 use Rattle.image_write.specs.Writing.{Reaches, Uses}
 use Rattle.image_write.specs.Planting.{Stocked, Here, Planted, Grew, Grows}

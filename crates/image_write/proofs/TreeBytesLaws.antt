@@ -16,7 +16,7 @@ use Rattle.image.specs.Tries.{Trie, leaf, fork, size, sideOf, ref, refs, stalk}
 use Rattle.image.proofs.LengthLaws.{length-treeBytes}
 use Rattle.image.proofs.PreorderLaws.{length-refs}
 use Rattle.image.proofs.SetsLaws.{sets-before, sets-after}
-use Rattle.image_zones.specs.Blocks.{usedIn}
+use Rattle.image_zones.specs.Used.{usedIn}
 use Rattle.image_write.specs.Stalks.{wayIn, stalkBytes}
 use Rattle.image_write.specs.Writing.{Reaches, Uses}
 

@@ -18,7 +18,7 @@ use Rattle.audit.specs.Checking.{auditOn}
 use Rattle.audit.specs.declared.Audited.the-variants.{No}
 use Rattle.image.specs.Image.{size24, offset, image, imageLength}
 use Rattle.image.specs.Tries.{Trie}
-use Rattle.image_zones.specs.Blocks.{usedIn}
+use Rattle.image_zones.specs.Used.{usedIn}
 use Rattle.image_write.specs.declared.Written.{Written}
 use Rattle.image_write.specs.declared.Written.the-variants.{Wrote, BadLength, Damaged, ShortOut}
 

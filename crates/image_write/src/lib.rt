@@ -19,7 +19,7 @@ ghost use Rattle.image.specs.Bytes.{bytesOf};
 ghost use Rattle.image.specs.Image.{size24, nodeBytes};
 ghost use Rattle.image.specs.Tries.{size, grow};
 ghost use Rattle.image_data.specs.Runs.{lengthOf};
-ghost use Rattle.image_write.specs.Parts.{Part, bothEnd};
+ghost use Rattle.image_write.specs.Parts.{Part};
 ghost use Rattle.image_write.specs.Stalks.{stepBytes, PutStalk};
 ghost use Rattle.image_write.specs.Planting.{Here, Planted, Grows, Rooted, Stands};
 ghost use Rattle.image_write.specs.Whole.{Planned, lengthBy, Fills, filled};
@@ -129,19 +129,12 @@ fn count_below(table: &[u32], l: u32, a: u32) -> u32
     let r = records::read_record(table, l);
     let w = r.tag / 2;
     let way = w - a;
-    if both_end(r) {
+    if image_zones::both_end(r) {
         return way;
     }
     let x = count_below(table, r.left, w + 1);
     let y = count_below(table, r.right, w + 1);
     way + 1 + x + y
-}
-
-// Nothing is stored below the record's node.
-fn both_end(r: Record) -> bool
-    ensures { λ b. ⌜ b ≡ bothEnd r ⌝ }
-{
-    (r.left == 0) & (r.right == 0)
 }
 
 // ---- the search tree
@@ -183,7 +176,7 @@ fn put_below(
     let w = r.tag / 2;
     let own = next + (w - a);
     let here = here_of(out, n, runs, r, above);
-    if both_end(r) {
+    if image_zones::both_end(r) {
         let top = put_stalk(out, k, a, next, above, here);
         return Grown { next: own, top };
     }

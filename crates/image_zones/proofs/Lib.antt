@@ -1,6 +1,4 @@
-pub mod SortedLaws
-pub mod InsertLaws
-pub mod BlocksLaws
-pub mod NextLaws
+pub mod InOrderLaws
 pub mod UsedLaws
 pub mod PassesLaws
+pub mod TurnsLaws

@@ -4,25 +4,31 @@
 use Prim.Native.Nat.{ℕ, suc, _+_, _/_, _%_, _<_, _≤_}
 use native.Mathlib.Omega.{arith}
 use mathlib.Core.Path.{_≡_, refl, sym, ap, _∙_}
-use mathlib.Core.Bool.{Bool, true, false, _||_}
+use mathlib.Core.Bool.{Bool, true, false, _&&_, _||_}
 use mathlib.Core.List.{List, [], _∷_, _++_}
 use mathlib.Core.Option.{Option, none, some}
-use lib.Dec.{eqb}
+use lib.Dec.{T, eqb, eqb→eq}
 use lib.ListN.{length, drop, length-drop}
-use borrow.Author.Tests.{eq-eqb, ne-eqb}
+use borrow.Author.Tests.{lt-ltb, le-ltb, eq-eqb, ne-eqb}
 use Rattle.bits.specs.Lists.{any}
 use Rattle.bits.specs.Bits.{Bits}
-use Rattle.bits.proofs.ListsLaws.{any-append}
+use Rattle.bits.proofs.ListsLaws.{true-T, and-left, and-right, any-append}
 use Rattle.zones.specs.Tree.{Tree, tip, node}
 use Rattle.records.specs.Layout.{recordAt, zoneOf}
 use Rattle.records.specs.Hanging.{Hangs, HangsNode}
 use Rattle.records.specs.declared.Record.{Record}
+use Rattle.records.proofs.HangingLaws.{hangs-tip}
 use Rattle.image.specs.Image.{zonesOf}
 use Rattle.image.specs.Tries.{Trie, leaf, fork, size, ref, refs, stalk, nearer, topped, crown, grow}
 use Rattle.image.proofs.ZonesLaws.{uses, usedBy, any-zonesOf}
-use Rattle.image_zones.specs.Blocks.{usedIn, beside, Keeps}
-use Rattle.image_zones.proofs.SortedLaws.{SameNumbers}
-use Rattle.image_zones.proofs.BlocksLaws.{keeps-ext, beside-way, beside-none}
+use Rattle.marks.proofs.MarksLaws.{or-false}
+use Rattle.image_blocks.specs.Blocks.{Keeps}
+use Rattle.image_blocks.specs.declared.Window.{Window}
+use Rattle.image_blocks.proofs.SortedLaws.{SameNumbers}
+use Rattle.image_blocks.proofs.BlocksLaws.{keeps-ext}
+use Rattle.image_zones.specs.Used.{zoneIn, usedIn, beside, bothEnd}
+use Rattle.image_zones.specs.declared.Above.{Above}
+use Rattle.image_zones.specs.declared.Above.the-variants.{Zone, Nothing}
 
 -- ---- tests
 
@@ -31,15 +37,37 @@ or-last true b = refl
 or-last false true = refl
 or-last false false = refl
 
-pub or-false : (a : Bool) → (a || false) ≡ a
-or-false true = refl
-or-false false = refl
-
 or-comm : (a b : Bool) → (a || b) ≡ (b || a)
 or-comm true true = refl
 or-comm true false = refl
 or-comm false true = refl
 or-comm false false = refl
+
+-- ---- beside
+
+beside-way : (a n : ℕ) (o : Option ℕ) → a < n → beside a n o ≡ usedIn (leaf o)
+unfolding beside
+beside-way a n o l = rw (lt-ltb a n l)
+
+beside-none : (a n : ℕ) (o : Option ℕ) → n ≤ a → beside a n o ≡ []
+unfolding beside
+beside-none a n o l = rw (le-ltb a n l)
+
+module _ {w : Window} {r : ℕ} {xs : List ℕ} (ys : List ℕ) (a n : ℕ) (o : Option ℕ) where
+  pub keeps-way : a < n → Keeps w xs r (usedIn (leaf o) ++ ys) → Keeps w xs r (beside a n o ++ ys)
+  keeps-way l h = rw (beside-way a n o l) h
+
+  pub keeps-no-way : n ≤ a → Keeps w xs r ys → Keeps w xs r (beside a n o ++ ys)
+  keeps-no-way l h = rw (beside-none a n o l) h
+
+-- ---- a leaf
+
+module _ {w : Window} {r : ℕ} {xs : List ℕ} (ys : List ℕ) (a : Above) where
+  pub keeps-zone : (z : ℕ) → a ≡ Zone z → Keeps w xs r (z ∷ ys) → Keeps w xs r (usedIn (leaf (zoneIn a)) ++ ys)
+  keeps-zone z e h = rw e h
+
+  pub keeps-nothing : a ≡ Nothing → Keeps w xs r ys → Keeps w xs r (usedIn (leaf (zoneIn a)) ++ ys)
+  keeps-nothing e h = rw e h
 
 -- ---- usedIn
 
@@ -97,6 +125,15 @@ used-node o a b s v l r ys z =
       used-crown z (nearer v o) (length s + 1) l r,
     ))
 
+-- a leaf's number twice
+used-twice : (o : Option ℕ) (zs : List ℕ) → SameNumbers (usedIn (leaf o) ++ zs) (usedIn (leaf o) ++ (usedIn (leaf o) ++ zs))
+used-twice none zs z = refl
+used-twice (some y) zs z = or-first (eqb z y) (any (eqb z) zs)
+  where
+    or-first : (a b : Bool) → (a || b) ≡ (a || (a || b))
+    or-first true b = refl
+    or-first false b = refl
+
 -- ---- zonesOf
 
 or-cross : (a b c d : Bool) → (a || b || (c || d)) ≡ (a || c || (b || d))
@@ -138,8 +175,8 @@ nearer-above x o n = rw (ne-eqb (x .tag % 2) 1 n)
 
 -- ---- a part of a table
 
-pub keeps-tip : {low r : ℕ} {xs : List ℕ} (ys : List ℕ) (o : Option ℕ) (a : ℕ) (t : Tree ℕ) → t ≡ tip
-    → Keeps low xs r (usedIn (leaf o) ++ ys) → Keeps low xs r (usedIn (grow o a t) ++ ys)
+pub keeps-tip : {w : Window} {r : ℕ} {xs : List ℕ} (ys : List ℕ) (o : Option ℕ) (a : ℕ) (t : Tree ℕ) → t ≡ tip
+    → Keeps w xs r (usedIn (leaf o) ++ ys) → Keeps w xs r (usedIn (grow o a t) ++ ys)
 keeps-tip ys o a t e h = rw e h
 
 module _ {ws : List ℕ} {l a : ℕ} {t : Tree ℕ} (h : HangsNode ws l a t) (x : Record) (e : x ≡ recordAt ws l) where
@@ -156,13 +193,24 @@ module _ {ws : List ℕ} {l a : ℕ} {t : Tree ℕ} (h : HangsNode ws l a t) (x 
   pub hangs-right : Hangs ws (x .right) (x .tag / 2 + 1) (h .right)
   hangs-right = rw (width-is, e) (h .hangs-right)
 
-  pub keeps-node : {low r : ℕ} {xs : List ℕ} (ys : List ℕ) (o own : Option ℕ) → own ≡ nearer (zoneOf x) o
-      → Keeps low xs r (usedIn (grow own (x .tag / 2 + 1) (h .right))
+  pub keeps-node : {w : Window} {r : ℕ} {xs : List ℕ} (ys : List ℕ) (o own : Option ℕ) → own ≡ nearer (zoneOf x) o
+      → Keeps w xs r (usedIn (grow own (x .tag / 2 + 1) (h .right))
       ++ (usedIn (grow own (x .tag / 2 + 1) (h .left)) ++ (beside a (x .tag / 2) o ++ ys)))
-      → Keeps low xs r (usedIn (grow o a t) ++ ys)
-  keeps-node {low} {r} {xs} ys o own f k =
-      let w : ℕ = length (h .string) + 1 in
+      → Keeps w xs r (usedIn (grow o a t) ++ ys)
+  keeps-node {w} {r} {xs} ys o own f k =
+      let d : ℕ = length (h .string) + 1 in
       let own-is : own ≡ nearer (h .zone) o = f ∙ ap (λ (v : Option ℕ). nearer v o) (ap zoneOf e ∙ h .bears .zone) in
-      let sides : Keeps low xs r (usedIn (grow (nearer (h .zone) o) w (h .right)) ++ (usedIn (grow (nearer (h .zone) o) w (h .left))
+      let sides : Keeps w xs r (usedIn (grow (nearer (h .zone) o) d (h .right)) ++ (usedIn (grow (nearer (h .zone) o) d (h .left))
       ++ (beside a (length (h .string)) o ++ ys))) = rw (own-is, width-is) at k in
       rw (h .is-node) (keeps-ext sides _ (used-node o a l (h .string) (h .zone) (h .left) (h .right) ys))
+
+  -- nothing is stored below the node: its two sides are leaves that hold its own zone or the one above it
+  pub keeps-end : {w : Window} {r : ℕ} {xs : List ℕ} (ys : List ℕ) (o own : Option ℕ) (b : Bool) → own ≡ nearer (zoneOf x) o → b ≡ bothEnd x → b ≡ true
+      → Keeps w xs r (usedIn (leaf own) ++ (beside a (x .tag / 2) o ++ ys)) → Keeps w xs r (usedIn (grow o a t) ++ ys)
+  unfolding bothEnd
+  keeps-end ys o own b f q e k =
+      let none : T (eqb (x .left) 0 && eqb (x .right) 0) = true-T (eqb (x .left) 0 && eqb (x .right) 0) (sym q ∙ e) in
+      let left = eqb→eq (x .left) 0 (and-left (eqb (x .left) 0) (eqb (x .right) 0) none) in
+      let right = eqb→eq (x .right) 0 (and-right (eqb (x .left) 0) (eqb (x .right) 0) none) in
+      keeps-node ys o own f
+      (rw (hangs-tip _ _ _ _ hangs-left left, hangs-tip _ _ _ _ hangs-right right) (keeps-ext k _ (used-twice own (beside a (x .tag / 2) o ++ ys))))

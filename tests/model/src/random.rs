@@ -2,9 +2,24 @@
 
 use crate::image::{words, Bits, List};
 
-/// Zone numbers at the edges of a data entry's sizes.
-pub const ZONES: [u32; 12] =
-    [0, 1, 5, 255, 256, 65_535, 65_536, 16_777_215, 16_777_216, 16_777_217, 4_294_967_294, 4_294_967_295];
+/// Zone numbers at the edges of a data entry's sizes, and of what a writer may keep as marks.
+pub const ZONES: [u32; 15] = [
+    0,
+    1,
+    5,
+    255,
+    256,
+    65_535,
+    65_536,
+    131_071,
+    131_072,
+    131_073,
+    16_777_215,
+    16_777_216,
+    16_777_217,
+    4_294_967_294,
+    4_294_967_295,
+];
 
 /// Epochs at the edges of their sizes.
 pub const EPOCHS: [u64; 8] =

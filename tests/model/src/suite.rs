@@ -54,8 +54,20 @@ pub fn every_byte(calls: &dyn Calls) {
 /// block by block meets its blocks' edges.
 pub fn many_entries(calls: &dyn Calls) {
     let mut random = Random(13);
-    let list: List =
-        (0..6_000u32).map(|i| ((0..13).map(|b| i >> b & 1 == 1).collect(), i * 700_001)).collect();
+    let list = |zone: fn(u32) -> u32| -> List {
+        (0..6_000u32).map(|i| ((0..13).map(|b| i >> b & 1 == 1).collect(), zone(i))).collect()
+    };
+    written(calls, "6,000 numbers from 0 on", &list(|i| i), 1, &mut random);
+    written(calls, "6,000 numbers around 131,072", &list(|i| 128_072 + i), 1, &mut random);
+    written(calls, "6,000 numbers, most of them above 131,072", &list(|i| 130_972 + i), 1, &mut random);
+    written(calls, "6,000 numbers up to the highest", &list(|i| u32::MAX - i), 1, &mut random);
+    // where the library's first window of numbers ends, in a table of 12,000 records
+    written(calls, "3,000 numbers below a window's end", &list(|i| 1_466_024_418 - 3_000 + i), 1, &mut random);
+    written(calls, "600 numbers below a window's end", &list(|i| 1_466_024_418 - 600 + i), 1, &mut random);
+    let thinner = list(|i| if i < 4_500 { 200_000 + i } else { 800_000_000 + (i - 4_500) * 2_000_003 });
+    written(calls, "4,500 numbers in a row, and 1,500 spread above them", &thinner, 1, &mut random);
+    written(calls, "6,000 numbers spread below 131,072", &list(|i| 33 * i % 131_072), 1, &mut random);
+    let list = list(|i| i * 700_001);
     written(calls, "6,000 entries", &list, 1, &mut random);
     let good = image(&list, 1).expect("it fits");
     let (n, _) = numbers(&good).expect("an image has them");

@@ -4,7 +4,6 @@
 use Prim.Native.Nat.{_-_, _≤_}
 use native.Mathlib.Omega.{arith}
 use borrow.Author.Needs.{needs}
-use Rattle.image_verify.proofs.MarksLaws.{marks-xor}
 use Rattle.image_verify.proofs.StartsLaws.{next-nearer}
 use Rattle.image_verify.proofs.StretchLaws.{Flipping, flipping-start, flipping-next, flipping-end}
 use Rattle.image_verify.proofs.flip_starts.Statement.{statement}
@@ -18,6 +17,9 @@ abbrev μ-loop : tie.MeasureT-loop
 
 loop-holds : tie.Need-loop-holds Inv-loop μ-loop
 loop-holds c = (search needs, search needs, flipping-start _ _ _ _ _ _ (search needs))
+
+flip-requires : tie.Need-flip-requires Inv-loop μ-loop
+flip-requires c κs = (search needs, c .before .before .loop .inv .2 .full)
 
 loop-less : tie.Need-loop-less Inv-loop μ-loop
 loop-less c =
@@ -33,7 +35,7 @@ loop-again c =
       w .inside,
       flipping-next (a .bytes .now) (a .first) (a .end) (a .base) (a .stop) (a .marks .now) (search needs) (search needs) (at-loop .loop .at)
           (search needs) _ _ _ (search needs) (at-loop .loop .inv .2)
-          (marks-xor _ (at-loop .loop .at - a .base) _ (at-loop .loop .inv .2 .full) (omega arith) (c .before .bit .ensures))
+          (c .before .flip .ensures)
           (c .next-start .ensures),
     )
 
@@ -48,11 +50,7 @@ flip-starts-spec =
     μ-loop
     loop-holds
     (λ c. search needs)
-    (λ c. search needs)
-    (λ c. search needs)
-    (λ c κs. search needs)
-    (λ c. search needs)
-    (λ c. search needs)
+    flip-requires
     (λ c κs. search needs)
     loop-less
     loop-again

@@ -1,5 +1,5 @@
--- `image_verify::mark_inside` meets its contract: outside the stretch no byte is p, and inside it the bit
--- of p is set.
+-- `image_verify::mark_inside` meets its contract: outside the stretch no byte is p, and inside it p is
+-- marked.
 -- Assumes nothing.
 use borrow.Author.Needs.{needs}
 use Rattle.image_verify.proofs.StretchLaws.{marks-before, marks-after, marks-inside}
@@ -13,7 +13,7 @@ returns-2 : tie.Need-returns-2
 returns-2 c = marks-after _ _ _ _ (search needs) (search needs)
 
 returns-3 : tie.Need-returns-3
-returns-3 c = marks-inside _ _ _ _ (search needs) _ (search needs) (search needs) (search needs) (search needs)
+returns-3 c = marks-inside _ _ _ _ (search needs) _ (search needs) (search needs) (c .add .ensures)
 
 pub mark-inside-spec : {M : Type 1} → statement M
 mark-inside-spec =
@@ -21,9 +21,5 @@ mark-inside-spec =
     (tie.spec
     returns
     returns-2
-    (λ c. search needs)
-    (λ c. search needs)
     (λ c κs. search needs)
-    (λ c. search needs)
-    (λ c. search needs)
     returns-3)

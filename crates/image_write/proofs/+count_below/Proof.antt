@@ -10,7 +10,7 @@ use borrow.Fn.PlainCycle.{Measures, is, falls, and}
 use Rattle.records.proofs.read_record.Reads as read-record
 use Rattle.image_write.proofs.PartLaws.{inside-hangs}
 use Rattle.image_write.proofs.CountLaws.{counts-tip, counts-end, counts-fork, part-low, part-high, part-left, part-right, counts-fit}
-use Rattle.image_write.proofs.both_end.Reads as both-end
+use Rattle.image_zones.proofs.both_end.Reads as both-end
 use Rattle.image_write.proofs.count_below.Reads as reads
 use Rattle.image_write.proofs.count_below.Kinds as kinds
 use Rattle.image_write.proofs.+count_below.{statement}

@@ -14,7 +14,7 @@ use Rattle.records.proofs.read_record.Reads as read-record
 use Rattle.image_write.proofs.PartLaws.{inside-hangs}
 use Rattle.image_write.proofs.StockLaws.{stocked-length}
 use Rattle.image_write.proofs.PlantLaws.{grows-tip, Node, planted-low, planted-high, planted-own, planted-stalk, planted-fork, planted-left, planted-right, grew-forked, grew-end}
-use Rattle.image_write.proofs.both_end.Reads as both-end
+use Rattle.image_zones.proofs.both_end.Reads as both-end
 use Rattle.image_write.proofs.here_of.Reads as here-of
 use Rattle.image_write.proofs.put_fork.Reads as put-fork
 use Rattle.image_write.proofs.put_stalk.Reads as put-stalk
