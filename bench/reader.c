@@ -4,36 +4,18 @@
  * FOLDER has what `nalfipode-bench image` wrote: image, wider (the same with two more pairs of metadata, which
  * libmaxminddb asks for) and questions, 16 bytes each. */
 #include "../c/nalfipode.h"
+#include "files.h"
 
 #include <arpa/inet.h>
 #include <maxminddb.h>
 #include <netinet/in.h>
-#include <stdio.h>
-#include <stdlib.h>
 #include <string.h>
-#include <time.h>
 
 enum { ROUNDS = 25, NONE = -1 };
 
 static uint8_t *image, *questions;
 static size_t image_bytes, asked;
 static MMDB_s theirs;
-
-static uint8_t *loaded(const char *folder, const char *name, size_t *bytes)
-{
-    char path[4096];
-    snprintf(path, sizeof path, "%s/%s", folder, name);
-    FILE *file = fopen(path, "rb");
-    if (file == NULL || fseek(file, 0, SEEK_END) != 0)
-        exit(2);
-    *bytes = (size_t)ftell(file);
-    uint8_t *content = malloc(*bytes);
-    rewind(file);
-    if (content == NULL || fread(content, 1, *bytes, file) != *bytes)
-        exit(2);
-    fclose(file);
-    return content;
-}
 
 /* The zone of question i, or NONE. */
 static int64_t our_zone(size_t i)
@@ -67,14 +49,12 @@ static double timed(int64_t (*zone)(size_t))
 {
     double least = 1e30;
     for (int round = 0; round < ROUNDS; round++) {
-        struct timespec a, b;
         volatile int64_t kept = 0;
-        clock_gettime(CLOCK_MONOTONIC, &a);
+        double start = now();
         for (size_t i = 0; i < asked; i++)
             kept = zone(i);
-        clock_gettime(CLOCK_MONOTONIC, &b);
+        double ns = (now() - start) / (double)asked;
         (void)kept;
-        double ns = (1e9 * (double)(b.tv_sec - a.tv_sec) + (double)(b.tv_nsec - a.tv_nsec)) / (double)asked;
         least = ns < least ? ns : least;
     }
     return least;

@@ -1,5 +1,6 @@
 //! Keys, and the sets and questions that the peers are measured on, from fixed seeds.
 use std::collections::BTreeSet;
+use std::fs;
 
 /// A key as one number, its first bit highest, with zeros after the width: the derived order is the paper's.
 #[derive(Clone, Copy, PartialEq, Eq, PartialOrd, Ord, Debug)]
@@ -137,5 +138,19 @@ impl Data {
             })
             .collect();
         Data { stored, others, questions }
+    }
+
+    /// Writes the keys for bench/patricia.c, 24 bytes each: width, zone number, bits. The numbers are those that the
+    /// peers here store.
+    pub fn write(&self, folder: &str) {
+        let file = |name: &str, keys: &[Key], zone: &dyn Fn(usize) -> u32| {
+            let bytes: Vec<u8> = (keys.iter().enumerate())
+                .flat_map(|(i, k)| [&k.width.to_le_bytes()[..], &zone(i).to_le_bytes(), &k.bits.to_be_bytes()].concat())
+                .collect();
+            fs::write(format!("{}/{}", folder, name), bytes).expect("the folder is there");
+        };
+        file("stored", &self.stored, &|i| i as u32);
+        file("others", &self.others, &|_| 1);
+        file("questions", &self.questions, &|_| 0);
     }
 }

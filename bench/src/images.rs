@@ -1,22 +1,59 @@
 //! Images: the writer, the checker and the lookup, by size; and the files that bench/reader.c reads.
-use crate::data::{Data, Key, Kind};
+use crate::data::{Data, Key, Kind, Random};
 use crate::ours::Ours;
 use crate::peer::Peer;
 use nalfipode::raw;
+use std::collections::BTreeSet;
 use std::fs;
 use std::hint::black_box;
 use std::time::Instant;
 
 const SIZES: [usize; 3] = [1_000, 8_000, 30_000];
+const NESTED: [usize; 3] = [1_000, 8_000, 60_000];
 const ROUNDS: usize = 25;
 /// A reader of the format may refuse an epoch of 0.
 const EPOCH: u64 = 1_794_700_800;
 
-/// A table of these keys, with so many different zone numbers.
-fn filled(keys: &[Key], zones: usize) -> Ours {
+/// Which zone numbers a table has: what the writer sorts.
+#[derive(Clone, Copy)]
+enum Zones {
+    /// The numbers below 500, again and again.
+    Few,
+    /// 0, 1, 2, ..
+    Dense,
+    /// All different too, at random among all 32-bit numbers.
+    Spread,
+}
+
+impl Zones {
+    const ALL: [Zones; 3] = [Zones::Few, Zones::Dense, Zones::Spread];
+
+    fn name(self) -> &'static str {
+        match self {
+            Zones::Few => "500",
+            Zones::Dense => "all different",
+            Zones::Spread => "all different, spread over 32 bits",
+        }
+    }
+
+    fn numbers(self, size: usize) -> Vec<u32> {
+        match self {
+            Zones::Few => (0..size as u32).map(|i| i % 500).collect(),
+            Zones::Dense => (0..size as u32).collect(),
+            Zones::Spread => {
+                let mut random = Random(size as u64);
+                let mut seen = BTreeSet::new();
+                let all = std::iter::repeat_with(|| random.next() as u32);
+                all.filter(|zone| seen.insert(*zone)).take(size).collect()
+            }
+        }
+    }
+}
+
+fn filled(keys: &[Key], zones: Zones) -> Ours {
     let mut table = Ours::new(keys.len());
-    for (i, key) in keys.iter().enumerate() {
-        table.store(*key, (i % zones) as u32, &mut [0; 129]);
+    for (key, zone) in keys.iter().zip(zones.numbers(keys.len())) {
+        table.store(Ours::key(*key), zone, &mut [0; 129]);
     }
     table
 }
@@ -38,7 +75,7 @@ fn least(mut call: impl FnMut()) -> f64 {
     })
 }
 
-fn row(name: &str, keys: &[Key], zones: usize, questions: &[Key]) {
+fn row(name: &str, keys: &[Key], zones: Zones, questions: &[Key]) {
     let table = filled(keys, zones);
     let mut image = written(&table);
     let mut length = [0];
@@ -50,24 +87,26 @@ fn row(name: &str, keys: &[Key], zones: usize, questions: &[Key]) {
         }
     });
     let look = 1000.0 * look / questions.len() as f64;
-    println!("| {} | {} | {} | {:.0} | {:.0} | {:.0} |", name, zones, image.len(), write, check, look);
+    println!("| {} | {} | {} | {:.0} | {:.0} | {:.0} |", name, zones.name(), image.len(), write, check, look);
 }
 
-/// A table of each kind and size, and of 60,000 prefixes that are all nodes of one tree.
+/// A table of each kind and size, and of prefixes that are all nodes of one tree.
 pub fn table() {
     println!("| prefixes | zone numbers | bytes | write, µs | check, µs | look, ns |");
     println!("|---|---|---|---|---|---|");
     for kind in [Kind::Cells, Kind::Routes] {
         for size in SIZES {
             let data = Data::new(kind, size);
-            for zones in [500, size] {
+            for zones in Zones::ALL {
                 row(&format!("{} {}", size, kind.name()), &data.stored, zones, &data.questions);
             }
         }
     }
-    let nested = nested(60_000);
-    for zones in [500, nested.len()] {
-        row("60,000 nested", &nested, zones, &nested[..16_384]);
+    for size in NESTED {
+        let nested = nested(size);
+        for zones in Zones::ALL {
+            row(&format!("{} nested", size), &nested, zones, &nested[..size.min(16_384)]);
+        }
     }
 }
 
@@ -80,7 +119,7 @@ fn nested(size: usize) -> Vec<Key> {
 /// Writes an image and its questions for the outside reader, whose metadata wants two more pairs.
 pub fn files(kind: Kind, size: usize, folder: &str) {
     let data = Data::new(kind, size);
-    let image = written(&filled(&data.stored, size));
+    let image = written(&filled(&data.stored, Zones::Dense));
     let mut wider = image.clone();
     let marker = b"\xAB\xCD\xEFMaxMind.com";
     let at = wider.windows(14).rposition(|w| w == marker).expect("an image has it") + 14;

@@ -5,6 +5,7 @@
 //!                                           counter: the difference of two Ns is what the calls take
 //!     bench images                          the image calls, for each kind and size
 //!     bench image KIND SIZE FOLDER          an image and questions for bench/reader.c
+//!     bench keys KIND SIZE FOLDER           the set and its questions for bench/patricia.c
 
 mod data;
 mod images;
@@ -13,7 +14,7 @@ mod peer;
 mod plain;
 mod tree;
 
-use data::{Data, Kind};
+use data::{Data, Key, Kind};
 use ours::Ours;
 use peer::Peer;
 use plain::{Map, Sorted};
@@ -26,33 +27,48 @@ const SIZES: [usize; 4] = [1_000, 8_000, 20_000, 30_000];
 const SLICE: usize = 64;
 const ROUNDS: usize = 25;
 
+/// The keys of a set in a peer's own form.
+struct Keys<P: Peer> {
+    stored: Vec<P::Key>,
+    others: Vec<P::Key>,
+    questions: Vec<P::Key>,
+}
+
+impl<P: Peer> Keys<P> {
+    fn of(data: &Data) -> Self {
+        let all = |keys: &[Key]| keys.iter().map(|k| P::key(*k)).collect();
+        Keys { stored: all(&data.stored), others: all(&data.others), questions: all(&data.questions) }
+    }
+}
+
 fn filled<P: Peer>(data: &Data) -> P {
     let mut peer = P::new(data.stored.len() + data.others.len());
     let mut trail = [0; 129];
     for (zone, key) in data.stored.iter().enumerate() {
-        assert_eq!(peer.store(*key, zone as u32, &mut trail), None);
+        assert_eq!(peer.store(P::key(*key), zone as u32, &mut trail), None);
     }
     peer
 }
 
 /// A peer with the least nanoseconds per call of each kind so far.
-struct Timed<P> {
+struct Timed<P: Peer> {
     peer: P,
+    keys: Keys<P>,
     least: Vec<f64>,
 }
 
 impl<P: Peer> Timed<P> {
     fn new(data: &Data) -> Self {
-        Timed { peer: filled(data), least: vec![f64::MAX; CALLS.len()] }
+        Timed { peer: filled(data), keys: Keys::of(data), least: vec![f64::MAX; CALLS.len()] }
     }
 
     /// One round of each kind of call. Peers take turns, so that what else the machine does meets them alike.
-    fn turn(&mut self, data: &Data) {
+    fn turn(&mut self) {
         for (i, what) in CALLS.iter().enumerate() {
             if *what == "remove" {
                 continue;
             }
-            let (first, second) = round(&mut self.peer, data, what);
+            let (first, second) = round(&mut self.peer, &self.keys, what);
             self.least[i] = self.least[i].min(first);
             if *what == "store" {
                 self.least[i + 1] = self.least[i + 1].min(second);
@@ -71,39 +87,39 @@ fn per(start: Instant, calls: usize) -> f64 {
 }
 
 /// One round of calls; a round of stores is followed by one of removes.
-fn round<P: Peer>(peer: &mut P, data: &Data, what: &str) -> (f64, f64) {
+fn round<P: Peer>(peer: &mut P, keys: &Keys<P>, what: &str) -> (f64, f64) {
     let mut trail = [0; 129];
     let mut out = [0; 6 * SLICE];
     let start = Instant::now();
     match what {
         "match" => {
-            for k in &data.questions {
+            for k in &keys.questions {
                 black_box(peer.longest(black_box(*k), &mut trail));
             }
-            (per(start, data.questions.len()), 0.0)
+            (per(start, keys.questions.len()), 0.0)
         }
         "fetch" => {
-            for k in &data.stored {
+            for k in &keys.stored {
                 black_box(peer.fetch(black_box(*k), &mut trail));
             }
-            (per(start, data.stored.len()), 0.0)
+            (per(start, keys.stored.len()), 0.0)
         }
         "store" => {
-            for k in &data.others {
+            for k in &keys.others {
                 black_box(peer.store(black_box(*k), 1, &mut trail));
             }
-            let stored = per(start, data.others.len());
+            let stored = per(start, keys.others.len());
             let start = Instant::now();
-            for k in &data.others {
+            for k in &keys.others {
                 black_box(peer.remove(black_box(*k), &mut trail));
             }
-            (stored, per(start, data.others.len()))
+            (stored, per(start, keys.others.len()))
         }
         "slice" => {
-            for k in &data.others {
+            for k in &keys.others {
                 black_box(peer.slice(Some(black_box(*k)), &mut out));
             }
-            (per(start, data.others.len()), 0.0)
+            (per(start, keys.others.len()), 0.0)
         }
         "check" => match black_box(peer.check()) {
             Some(sound) => {
@@ -123,7 +139,7 @@ fn agree(data: &Data) -> f64 {
     let mut first = [0; 129];
     let mut second = [0; 129];
     for k in &data.questions {
-        let answer = a.longest(*k, &mut first);
+        let answer = a.longest(Ours::key(*k), &mut first);
         assert_eq!(answer, b.longest(*k, &mut second));
         assert_eq!(first, second, "the trails of {:?}", k);
         assert_eq!(answer, c.longest(*k, &mut second));
@@ -131,13 +147,13 @@ fn agree(data: &Data) -> f64 {
     }
     let mut outs = [[0; 6 * SLICE]; 4];
     for k in &data.others {
-        let given = a.slice(Some(*k), &mut outs[0]);
+        let given = a.slice(Some(Ours::key(*k)), &mut outs[0]);
         assert_eq!(given, b.slice(Some(*k), &mut outs[1]));
         assert_eq!(given, c.slice(Some(*k), &mut outs[2]));
         assert_eq!(given, d.slice(Some(*k), &mut outs[3]));
         assert!(outs.iter().all(|out| out[..6 * given] == outs[0][..6 * given]));
     }
-    let nodes: u32 = data.questions.iter().map(|k| a.nodes(*k)).sum();
+    let nodes: u32 = data.questions.iter().map(|k| a.nodes(Ours::key(*k))).sum();
     f64::from(nodes) / data.questions.len() as f64
 }
 
@@ -163,10 +179,10 @@ fn table() {
             let (mut ours, mut tree) = (Timed::<Ours>::new(&data), Timed::<Tree>::new(&data));
             let (mut map, mut sorted) = (Timed::<Map>::new(&data), Timed::<Sorted>::new(&data));
             for _ in 0..ROUNDS {
-                ours.turn(&data);
-                tree.turn(&data);
-                map.turn(&data);
-                sorted.turn(&data);
+                ours.turn();
+                tree.turn();
+                map.turn();
+                sorted.turn();
             }
             let least = ours.times();
             shown(Ours::NAME, &least, &least);
@@ -177,23 +193,28 @@ fn table() {
     }
 }
 
+/// N calls, with nothing between them but to take the next key.
+fn each<K: Copy>(keys: &[K], n: usize, mut call: impl FnMut(K)) {
+    for k in keys.iter().cycle().take(n) {
+        call(*k);
+    }
+}
+
 /// N calls of one kind: stores of keys that are not in the set, removes of keys that are; so N is at most 1,000
 /// for a store, and the set's size for a remove.
 fn count<P: Peer>(what: &str, data: &Data, n: usize) {
     let mut peer = filled::<P>(data);
+    let keys = Keys::<P>::of(data);
     let mut trail = [0; 129];
     let mut out = [0; 6 * SLICE];
-    for i in 0..n {
-        let other = data.others[i % data.others.len()];
-        match what {
-            "match" => drop(black_box(peer.longest(data.questions[i % data.questions.len()], &mut trail))),
-            "fetch" => drop(black_box(peer.fetch(data.stored[i % data.stored.len()], &mut trail))),
-            "store" => drop(black_box(peer.store(other, 1, &mut trail))),
-            "remove" => drop(black_box(peer.remove(data.stored[i % data.stored.len()], &mut trail))),
-            "slice" => drop(black_box(peer.slice(Some(other), &mut out))),
-            "check" => drop(black_box(peer.check())),
-            _ => panic!("no call {}", what),
-        }
+    match what {
+        "match" => each(&keys.questions, n, |k| _ = black_box(peer.longest(k, &mut trail))),
+        "fetch" => each(&keys.stored, n, |k| _ = black_box(peer.fetch(k, &mut trail))),
+        "store" => each(&keys.others, n, |k| _ = black_box(peer.store(k, 1, &mut trail))),
+        "remove" => each(&keys.stored, n, |k| _ = black_box(peer.remove(k, &mut trail))),
+        "slice" => each(&keys.others, n, |k| _ = black_box(peer.slice(Some(k), &mut out))),
+        "check" => each(&keys.others, n, |_| _ = black_box(peer.check())),
+        _ => panic!("no call {}", what),
     }
 }
 
@@ -217,6 +238,7 @@ fn main() {
         }
         ["images"] => images::table(),
         ["image", kind, size, folder] => images::files(Kind::of(kind), size.parse().expect("a size"), folder),
-        _ => panic!("count PEER CALL KIND SIZE N, images, or image KIND SIZE FOLDER"),
+        ["keys", kind, size, folder] => Data::new(Kind::of(kind), size.parse().expect("a size")).write(folder),
+        _ => panic!("count PEER CALL KIND SIZE N, images, image KIND SIZE FOLDER, or keys KIND SIZE FOLDER"),
     }
 }

@@ -3,6 +3,13 @@ use crate::data::Key;
 use crate::peer::Peer;
 use nalfipode::{raw, table_words, MOST_RECORDS};
 
+/// A key as the library takes it.
+#[derive(Clone, Copy)]
+pub struct Words {
+    pub width: u32,
+    pub words: [u32; 4],
+}
+
 pub struct Ours {
     words: Vec<u32>,
 }
@@ -13,9 +20,9 @@ impl Ours {
     }
 
     /// How many nodes the path of a key has.
-    pub fn nodes(&self, k: Key) -> u32 {
+    pub fn nodes(&self, k: Words) -> u32 {
         let mut values = [0; 4];
-        raw::longest_match(&self.words, k.width, &k.words(), &mut [0; 129], &mut values);
+        raw::longest_match(&self.words, k.width, &k.words, &mut [0; 129], &mut values);
         values[0]
     }
 }
@@ -23,15 +30,21 @@ impl Ours {
 impl Peer for Ours {
     const NAME: &'static str = "nalfipode";
 
+    type Key = Words;
+
+    fn key(k: Key) -> Words {
+        Words { width: k.width, words: k.words() }
+    }
+
     fn new(size: usize) -> Ours {
         let mut words = vec![0; table_words(MOST_RECORDS.min(2 * size))];
         assert_eq!(raw::fresh(&mut words), 0);
         Ours { words }
     }
 
-    fn store(&mut self, k: Key, zone: u32, trail: &mut [u8]) -> Option<u32> {
+    fn store(&mut self, k: Words, zone: u32, trail: &mut [u8]) -> Option<u32> {
         let mut values = [0; 3];
-        let number = raw::store(&mut self.words, k.width, &k.words(), zone, trail, &mut values);
+        let number = raw::store(&mut self.words, k.width, &k.words, zone, trail, &mut values);
         assert_eq!(number, 0);
         if values[1] == 1 {
             Some(values[2])
@@ -40,25 +53,25 @@ impl Peer for Ours {
         }
     }
 
-    fn remove(&mut self, k: Key, trail: &mut [u8]) -> Option<u32> {
+    fn remove(&mut self, k: Words, trail: &mut [u8]) -> Option<u32> {
         let mut values = [0; 2];
-        match raw::remove(&mut self.words, k.width, &k.words(), trail, &mut values) {
+        match raw::remove(&mut self.words, k.width, &k.words, trail, &mut values) {
             0 => Some(values[1]),
             _ => None,
         }
     }
 
-    fn fetch(&self, k: Key, trail: &mut [u8]) -> Option<u32> {
+    fn fetch(&self, k: Words, trail: &mut [u8]) -> Option<u32> {
         let mut values = [0; 2];
-        match raw::fetch(&self.words, k.width, &k.words(), trail, &mut values) {
+        match raw::fetch(&self.words, k.width, &k.words, trail, &mut values) {
             0 => Some(values[1]),
             _ => None,
         }
     }
 
-    fn longest(&self, k: Key, trail: &mut [u8]) -> Option<(u32, u32)> {
+    fn longest(&self, k: Words, trail: &mut [u8]) -> Option<(u32, u32)> {
         let mut values = [0; 4];
-        raw::longest_match(&self.words, k.width, &k.words(), trail, &mut values);
+        raw::longest_match(&self.words, k.width, &k.words, trail, &mut values);
         if values[1] == 1 {
             Some((values[2], values[3]))
         } else {
@@ -66,12 +79,12 @@ impl Peer for Ours {
         }
     }
 
-    fn slice(&self, resume: Option<Key>, out: &mut [u32]) -> usize {
+    fn slice(&self, resume: Option<Words>, out: &mut [u32]) -> usize {
         let mut values = [0; 3];
-        let k = resume.unwrap_or(Key { bits: 0, width: 0 });
+        let k = resume.unwrap_or(Words { width: 0, words: [0; 4] });
         let flag = u32::from(resume.is_some());
         let size = (out.len() / 6) as u32;
-        assert_eq!(raw::slice(&self.words, flag, k.width, &k.words(), size, out, &mut values), 0);
+        assert_eq!(raw::slice(&self.words, flag, k.width, &k.words, size, out, &mut values), 0);
         values[0] as usize
     }
 

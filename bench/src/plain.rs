@@ -10,6 +10,12 @@ pub struct Map(BTreeMap<Key, u32>);
 impl Peer for Map {
     const NAME: &'static str = "BTreeMap";
 
+    type Key = Key;
+
+    fn key(k: Key) -> Key {
+        k
+    }
+
     fn new(_: usize) -> Map {
         Map(BTreeMap::new())
     }
@@ -52,6 +58,12 @@ impl Sorted {
 
 impl Peer for Sorted {
     const NAME: &'static str = "sorted array";
+
+    type Key = Key;
+
+    fn key(k: Key) -> Key {
+        k
+    }
 
     fn new(size: usize) -> Sorted {
         Sorted(Vec::with_capacity(size))

@@ -116,6 +116,12 @@ impl Tree {
 impl Peer for Tree {
     const NAME: &'static str = "safe Rust tree";
 
+    type Key = Key;
+
+    fn key(k: Key) -> Key {
+        k
+    }
+
     fn new(size: usize) -> Tree {
         Tree { nodes: Vec::with_capacity(2 * size), spare: Vec::new(), top: NONE }
     }
