@@ -1,19 +1,20 @@
 -- The laws of a descent: what a test of a record shows, what a descent stands for, and where the walk goes on from
 -- it. No contract cites this file.
 -- Assumes nothing.
-use Prim.Native.Nat.{ℕ, _+_, _-_, _*_, _/_, _%_, _^_, _≤_, _<_}
+use Prim.Native.Nat.{ℕ, zero, suc, _+_, _-_, _*_, _/_, _%_, _^_, _≤_, _<_}
 use native.Mathlib.Omega.{arith}
-use mathlib.Core.Path.{_≡_, sym, ap, subst, _∙_}
+use mathlib.Core.Path.{_≡_, refl, sym, ap, subst, _∙_}
 use mathlib.Core.Bool.{true, cond}
 use mathlib.Core.List.{List}
-use lib.Dec.{eqb}
+use lib.Dec.{eqb, ltb}
 use lib.ListN.{length}
-use borrow.Author.Tests.{eq-eqb, ne-eqb}
+use borrow.Author.Tests.{lt-ltb, le-ltb, eq-eqb, ne-eqb}
 use Rattle.bits.specs.Numbers.{odd}
 use Rattle.prefix.specs.Keys.{High, Parting}
 use Rattle.prefix.specs.declared.Prefix.{Prefix}
 use Rattle.prefix.proofs.HalvesLaws.{agree-after, agree-at}
-use Rattle.records.specs.Layout.{isTable, place, recordAt, headerAt, keyOf, sideOf}
+use Rattle.records.specs.Layout.{isTable, place, recordAt, headerAt, keyOf}
+use Rattle.records.specs.declared.Record.{Record}
 use Rattle.records.specs.declared.Header.{Header}
 use Rattle.records.proofs.LayoutLaws.{isTable-true}
 use Rattle.lookup.specs.Walking.{agreeOn, walkOn, walkFrom}
@@ -31,13 +32,25 @@ whole-room ws at t w h = let f = isTable-true (length ws) t in omega arith
 pub room-most : (ws : List ℕ) (at : ℕ) → isTable (length ws) ≡ true → at + 8 ≤ length ws → at < 524288
 room-most ws at t h = let f = isTable-true (length ws) t in omega arith
 
+-- which link is chosen by the shift: the first where the words agree past the node's width
+turn-way : (w x left right a : ℕ) → x ≤ 1 → (x ≡ 0 → w < a) → (x ≡ 1 → a ≡ w) → (w ≤ a) × (cond (eqb x 0) left right ≡ cond (ltb w a) left right)
+turn-way w zero left right a h p q = (omega (arith, p refl), rw (lt-ltb w a (p refl)))
+turn-way w (suc zero) left right a h p q = (omega (arith, q refl), rw (le-ltb w a (omega (arith, q refl))))
+turn-way w (suc (suc x)) left right a h p q = absurd (omega arith)
+
 module _ (ws : List ℕ) (k : Prefix) (at low tag : ℕ) (w : Whole at) (room : at + 8 ≤ length ws) where
-  pub passed-turn : (half hi own x : ℕ) → (at ≡ 0 → ⊥) → ((l : ℕ) → at ≡ place l → tag ≡ recordAt ws l .tag)
+  pub passed-turn : (half hi own x left right : ℕ) → (at ≡ 0 → ⊥) → ((l : ℕ) → at ≡ place l → tag ≡ recordAt ws l .tag)
+      → ((l : ℕ) → at ≡ place l → left ≡ recordAt ws l .left) → ((l : ℕ) → at ≡ place l → right ≡ recordAt ws l .right)
       → ((l : ℕ) → at ≡ place l → High (keyOf (recordAt ws l)) hi) → High k own → Parting hi own (tag / 2) x
-      → low ≤ tag / 2 → tag / 2 < half → (half ≤ k .width + 1) × (half ≤ 64) → x ≤ 1 → Passed ws k at low tag x
+      → low ≤ tag / 2 → tag / 2 < half → (half ≤ k .width + 1) × (half ≤ 64) → x ≤ 1 → (link : ℕ) → link ≡ cond (eqb x 0) left right
+      → Passed ws k at low tag link
   unfolding agreeOn
-  passed-turn half hi own x ne t h g p f e q s =
+  passed-turn half hi own x left right ne t tl tr h g p f e q s link el =
       let early : tag / 2 < 64 = omega arith in
+      let here : Record = recordAt ws (at / 8) in
+      let after = agree-after (keyOf here) k hi own (h (at / 8) w) g (tag / 2) x early p in
+      let same = agree-at (keyOf here) k hi own (h (at / 8) w) g (tag / 2) x early p in
+      let way = turn-way (tag / 2) x left right _ s after same in
       record {
         some-record = omega arith;
         room = room;
@@ -45,14 +58,13 @@ module _ (ws : List ℕ) (k : Prefix) (at low tag : ℕ) (w : Whole at) (room : 
         grown = f;
         wider = omega arith;
         early = early;
-        sides = s;
-        left = agree-after (keyOf (recordAt ws (at / 8))) k hi own (h (at / 8) w) g (tag / 2) x early p;
-        right = agree-at (keyOf (recordAt ws (at / 8))) k hi own (h (at / 8) w) g (tag / 2) x early p;
+        agrees = way .0;
+        goes = el ∙ way .1 ∙ rw (tl (at / 8) w, tr (at / 8) w);
       }
 
-pub turned-passed : (ws : List ℕ) (k : Prefix) (at low : ℕ) (x : Turn) (tag side : ℕ) → Turned ws k at low x → x ≡ On tag side
-    → Passed ws k at low tag side
-turned-passed ws k at low x tag side t e = subst (Turned ws k at low) e t
+pub turned-passed : (ws : List ℕ) (k : Prefix) (at low : ℕ) (x : Turn) (tag link : ℕ) → Turned ws k at low x → x ≡ On tag link
+    → Passed ws k at low tag link
+turned-passed ws k at low x tag link t e = subst (Turned ws k at low) e t
 
 -- ---- best_at, zone_at and walk_of
 
@@ -90,16 +102,15 @@ nextIn-on k d ne = rw (ne-eqb (d .low) (k .width + 1) ne)
 
 -- ---- past
 
-pub pastOn-past : (ws : List ℕ) (d : Descent) (tag side l h : ℕ) → Whole (d .next)
-    → ((j : ℕ) → d .next ≡ place j → l ≡ sideOf (recordAt ws j) (eqb side 1)) → h ≡ cond (odd tag) (d .next) (d .held) → l < 2 ^ 32
-    → (record { next = 8 * l; held = h; low = tag / 2 + 1; last = d .last * 1048576 % 2 ^ 64 + d .next; n = d .n + 1 }
-    ≡ pastOn ws d tag side) × (8 * l / 8 < 2 ^ 32)
+pub pastOn-past : (d : Descent) (tag link h : ℕ) → h ≡ cond (odd tag) (d .next) (d .held) → link < 2 ^ 32
+    → (record { next = 8 * link; held = h; low = tag / 2 + 1; last = d .last * 1048576 % 2 ^ 64 + d .next; n = d .n + 1 } ≡ pastOn d tag link)
+    × (8 * link / 8 < 2 ^ 32)
 unfolding pastOn
-pastOn-past ws d tag side l h w e f b = (rw (f, ← e (d .next / 8) w), omega arith)
+pastOn-past d tag link h f b = (rw f, omega arith)
 
-pub low-past : (ws : List ℕ) (d : Descent) (tag side : ℕ) (r : Descent) → r ≡ pastOn ws d tag side → r .low ≡ tag / 2 + 1
+pub low-past : (d : Descent) (tag link : ℕ) (r : Descent) → r ≡ pastOn d tag link → r .low ≡ tag / 2 + 1
 unfolding pastOn
-low-past ws d tag side r e = rw e
+low-past d tag link r e = rw e
 
 -- ---- where the walk goes on
 

@@ -1,14 +1,14 @@
 -- A node that a descent passes is a step of the walk, so that the loop of `descend` keeps what the walk from the
 -- top comes to. No contract cites this file.
 -- Assumes nothing.
-use Prim.Native.Nat.{ℕ, zero, suc, _+_, _*_, _/_, _%_, _^_, _≤_, _<_, min}
+use Prim.Native.Nat.{ℕ, _+_, _*_, _/_, _%_, _^_, _≤_, _<_, min}
 use native.Mathlib.Nat.{add-zero, mul-mod-left}
 use native.Mathlib.Decide.{decLt}
 use native.Mathlib.Omega.{arith}
 use mathlib.Core.Path.{_≡_, refl, sym, ap, subst, _∙_}
 use mathlib.Core.Bool.{Bool, true, false, cond}
 use mathlib.Core.List.{List}
-use lib.Dec.{eqb, ltb}
+use lib.Dec.{eqb}
 use lib.ListN.{length, set}
 use lib.Pow.{mod-pow-add, shl-shr, shr-shr, high, low, field, mod-mod-pow}
 use borrow.Author.Tests.{lt-ltb, le-ltb, eq-eqb, ne-eqb}
@@ -16,7 +16,7 @@ use Rattle.bits.specs.Numbers.{odd}
 use Rattle.bits.proofs.BitsLaws.{length-lcp-take}
 use Rattle.prefix.specs.Keys.{wordBits, stringOf}
 use Rattle.prefix.specs.declared.Prefix.{Prefix}
-use Rattle.records.specs.Layout.{isTable, place, recordAt, headerAt, keyOf, sideOf}
+use Rattle.records.specs.Layout.{isTable, place, recordAt, headerAt, keyOf}
 use Rattle.records.specs.declared.Record.{Record}
 use Rattle.records.proofs.LayoutLaws.{isTable-true, room-roomOf}
 use Rattle.lookup.specs.Walking.{sharedOn, agreeOn, sideOn, downOn, stepOn, startOn, walkFrom}
@@ -58,37 +58,23 @@ sharedOn-agree : (r : Record) (k : Prefix) → sharedOn r k ≡ min (min (r .tag
 unfolding sharedOn agreeOn stringOf keyOf
 sharedOn-agree r k = length-lcp-take (r .tag / 2) (k .width) (wordBits (keyOf r)) (wordBits k)
 
-module _ (ws : List ℕ) (k : Prefix) (d : Descent) (tag side : ℕ) (t : isTable (length ws) ≡ true) (s : Sound ws d)
-    (p : Passed ws k (d .next) (d .low) tag side) where
+module _ (ws : List ℕ) (k : Prefix) (d : Descent) (tag link : ℕ) (t : isTable (length ws) ≡ true) (s : Sound ws d)
+    (p : Passed ws k (d .next) (d .low) tag link) where
   abbrev here : Record
   here = recordAt ws (d .next / 8)
 
-  passed-agree : tag / 2 ≤ agreeOn here k
-  passed-agree = at side (p .sides) (p .left) (p .right)
-    where
-      at : (x : ℕ) → x ≤ 1 → (x ≡ 0 → tag / 2 < agreeOn here k) → (x ≡ 1 → agreeOn here k ≡ tag / 2) → tag / 2 ≤ agreeOn here k
-      at zero h a b = let g = a refl in omega arith
-      at (suc zero) h a b = let g = b refl in omega arith
-      at (suc (suc x)) h a b = absurd (omega arith)
-
   passed-shared : sharedOn here k ≡ here .tag / 2
-  passed-shared = omega (arith, sharedOn-agree here k, passed-agree, p .wider, p .tag-is)
+  passed-shared = omega (arith, sharedOn-agree here k, p .agrees, p .wider, p .tag-is)
 
-  passed-side : (x : ℕ) → x ≤ 1 → (x ≡ 0 → tag / 2 < agreeOn here k) → (x ≡ 1 → agreeOn here k ≡ tag / 2)
-      → cond (ltb (here .tag / 2) (agreeOn here k)) (here .left) (here .right) ≡ sideOf here (eqb x 1)
-  passed-side zero h a b = rw (lt-ltb (here .tag / 2) (agreeOn here k) (omega (arith, a refl, p .tag-is)))
-  passed-side (suc zero) h a b = rw (le-ltb (here .tag / 2) (agreeOn here k) (omega (arith, b refl, p .tag-is)))
-  passed-side (suc (suc x)) h a b = absurd (omega arith)
-
-  passed-next : sideOn here k (here .tag / 2) ≡ nextIn k (pastOn ws d tag side)
+  passed-next : sideOn here k (here .tag / 2) ≡ nextIn k (pastOn d tag link)
   unfolding sideOn nextIn pastOn
   passed-next = at (decLt (tag / 2) (k .width))
     where
-      at : Dec (tag / 2 < k .width) → sideOn here k (here .tag / 2) ≡ nextIn k (pastOn ws d tag side)
+      at : Dec (tag / 2 < k .width) → sideOn here k (here .tag / 2) ≡ nextIn k (pastOn d tag link)
       at (yes h) =
-          let w : place (sideOf here (eqb side 1)) / 8 ≡ sideOf here (eqb side 1) = omega arith in
-          rw (lt-ltb (here .tag / 2) (k .width) (omega (arith, p .tag-is)), ne-eqb (tag / 2 + 1) (k .width + 1) (λ q. omega arith), w)
-          (passed-side side (p .sides) (p .left) (p .right))
+          let w : place link / 8 ≡ link = omega arith in
+          let e : here .tag / 2 ≡ tag / 2 = rw (p .tag-is) in
+          rw (e, lt-ltb (tag / 2) (k .width) h, ne-eqb (tag / 2 + 1) (k .width + 1) (λ q. omega arith), w) (sym (p .goes))
       at (no h) =
           rw (le-ltb (here .tag / 2) (k .width) (omega (arith, p .tag-is)), eq-eqb (tag / 2 + 1) (k .width + 1) (omega (arith, p .wider)))
 
@@ -102,7 +88,7 @@ module _ (ws : List ℕ) (k : Prefix) (d : Descent) (tag side : ℕ) (t : isTabl
   on : nextIn k d ≡ d .next / 8
   on = sym (nextIn-on k d (λ e. omega (arith, p .grown, p .wider)))
 
-  down-past : downOn here k (walkIn ws k d) ≡ walkIn ws k (pastOn ws d tag side)
+  down-past : downOn here k (walkIn ws k d) ≡ walkIn ws k (pastOn d tag link)
   unfolding downOn walkIn pastOn bestIn zoneIn
   down-past =
       let f = isTable-true (length ws) t in
@@ -125,7 +111,7 @@ module _ (ws : List ℕ) (k : Prefix) (d : Descent) (tag side : ℕ) (t : isTabl
         zone = zone i;
       })
 
-  pub passed-step : Down (tag / 2) (walkIn ws k (pastOn ws d tag side)) ≡ stepOn ws k (walkIn ws k d)
+  pub passed-step : Down (tag / 2) (walkIn ws k (pastOn d tag link)) ≡ stepOn ws k (walkIn ws k d)
   unfolding walkIn
   passed-step =
       let room = room-roomOf (length ws) (d .next / 8) (omega (arith, p .some-record, s .next-whole)) (omega (arith, p .room, s .next-whole)) in
@@ -149,8 +135,8 @@ descended-start ws k ts root e h =
       same = rw (ne-eqb 0 (k .width + 1) (λ q. omega arith), whole, e);
     }
 
-module _ (ws : List ℕ) (k : Prefix) (ts after : List ℕ) (d : Descent) (tag side : ℕ) (t : isTable (length ws) ≡ true)
-    (p : Passed ws k (d .next) (d .low) tag side) (h : Descended ws k ts d after) where
+module _ (ws : List ℕ) (k : Prefix) (ts after : List ℕ) (d : Descent) (tag link : ℕ) (t : isTable (length ws) ≡ true)
+    (p : Passed ws k (d .next) (d .low) tag link) (h : Descended ws k ts d after) where
   held-past : Held ws (cond (odd tag) (d .next) (d .held))
   held-past = at (odd tag)
     where
@@ -158,7 +144,7 @@ module _ (ws : List ℕ) (k : Prefix) (ts after : List ℕ) (d : Descent) (tag s
       at true = record { whole = h .sound .next-whole; room = λ ne. p .room }
       at false = h .sound .held-at
 
-  descended-on : pastOn ws d tag side .next / 8 < 2 ^ 32 → Descended ws k ts (pastOn ws d tag side) (set after (d .n) (tag / 2))
+  descended-on : pastOn d tag link .next / 8 < 2 ^ 32 → Descended ws k ts (pastOn d tag link) (set after (d .n) (tag / 2))
   unfolding pastOn
   descended-on f =
       record {
@@ -167,10 +153,10 @@ module _ (ws : List ℕ) (k : Prefix) (ts after : List ℕ) (d : Descent) (tag s
         early = omega (arith, p .early);
         same =
             walkOn-down ws k (d .n) after (walkIn ws k d) (walkFrom ws k ts) (stepOn ws k (walkIn ws k d)) refl (h .same) (omega (arith, h .few, h .early))
-            (tag / 2) (walkIn ws k (pastOn ws d tag side)) (sym (passed-step ws k d tag side t (h .sound) p));
+            (tag / 2) (walkIn ws k (pastOn d tag link)) (sym (passed-step ws k d tag link t (h .sound) p));
       }
 
-  pub descended-past : (r : Descent) → (r ≡ pastOn ws d tag side) × (r .next / 8 < 2 ^ 32) → Descended ws k ts r (set after (d .n) (tag / 2))
+  pub descended-past : (r : Descent) → (r ≡ pastOn d tag link) × (r .next / 8 < 2 ^ 32) → Descended ws k ts r (set after (d .n) (tag / 2))
   descended-past r e =
       subst (λ (x : Descent). Descended ws k ts x (set after (d .n) (tag / 2))) (sym (e .0))
       (descended-on (subst (λ (x : Descent). x .next / 8 < 2 ^ 32) (e .0) (e .1)))

@@ -15,11 +15,11 @@ use Prim.Native.Nat.{ℕ, _+_, _-_, _*_, _/_, _%_, _^_, _≤_, _<_}
 use mathlib.Core.Path.{_≡_}
 use mathlib.Core.Bool.{true, cond}
 use mathlib.Core.List.{List}
-use lib.Dec.{eqb}
+use lib.Dec.{eqb, ltb}
 use lib.ListN.{length}
 use Rattle.bits.specs.Numbers.{odd}
 use Rattle.prefix.specs.declared.Prefix.{Prefix}
-use Rattle.records.specs.Layout.{place, recordAt, sideOf}
+use Rattle.records.specs.Layout.{place, recordAt}
 use Rattle.lookup.specs.Walking.{agreeOn, walkOn, walkFrom}
 use Rattle.lookup.specs.declared.Walk.{Walk}
 use Rattle.lookup.specs.declared.descent.Descent.{Descent}
@@ -33,26 +33,25 @@ pub record Held (ws : List ℕ) (at : ℕ) : Type 0 where
   pub whole : Whole at
   pub room : (at ≡ 0 → ⊥) → at + 8 ≤ length ws
 
--- what is known of a node that is passed: it is a prefix of the key, and `side` is where the key goes on
-pub record Passed (ws : List ℕ) (k : Prefix) (at low tag side : ℕ) : Type 0 where
+-- what is known of a node that is passed: it is a prefix of the key, which goes on by the link
+pub record Passed (ws : List ℕ) (k : Prefix) (at low tag link : ℕ) : Type 0 where
   pub some-record : 0 < at
   pub room : at + 8 ≤ length ws
   pub tag-is : tag ≡ recordAt ws (at / 8) .tag
   pub grown : low ≤ tag / 2
   pub wider : tag / 2 ≤ k .width
   pub early : tag / 2 < 64
-  pub sides : side ≤ 1
-  pub left : side ≡ 0 → tag / 2 < agreeOn (recordAt ws (at / 8)) k
-  pub right : side ≡ 1 → agreeOn (recordAt ws (at / 8)) k ≡ tag / 2
+  pub agrees : tag / 2 ≤ agreeOn (recordAt ws (at / 8)) k
+  pub goes : link ≡ cond (ltb (tag / 2) (agreeOn (recordAt ws (at / 8)) k)) (recordAt ws (at / 8) .left) (recordAt ws (at / 8) .right)
 
 abbrev pub Turned : List ℕ → Prefix → ℕ → ℕ → Turn → Type 0
-Turned ws k at low (On tag side) = Passed ws k at low tag side
+Turned ws k at low (On tag link) = Passed ws k at low tag link
 Turned ws k at low Off = Unit {0}
 
-unfoldable pub pastOn : List ℕ → Descent → ℕ → ℕ → Descent
-pastOn ws d tag side =
+unfoldable pub pastOn : Descent → ℕ → ℕ → Descent
+pastOn d tag link =
     record {
-      next = place (sideOf (recordAt ws (d .next / 8)) (eqb side 1));
+      next = place link;
       held = cond (odd tag) (d .next) (d .held);
       low = tag / 2 + 1;
       last = d .last * 1048576 % 2 ^ 64 + d .next;

@@ -23,10 +23,10 @@ pub struct Descent {
     pub n: usize,
 }
 
-// What a record is to a descent: a node to pass, with its tag and the side by which the key goes on,
-// 0 or 1; or anything else.
+// What a record is to a descent: a node to pass, with its tag and the link by which the key goes on; or
+// anything else.
 pub enum Turn {
-    On(u32, usize),
+    On(u32, u32),
     Off,
 }
 
@@ -48,16 +48,17 @@ pub fn descend(table: &[u32], k: Prefix, root: u32, widths: &mut [u8; 129]) -> D
             Turn::Off => {
                 return d;
             }
-            Turn::On(tag, side) => {
+            Turn::On(tag, link) => {
                 let n = d.n;
                 widths[n] = (tag / 2) as u8;
-                d = past(table, d, tag, side);
+                d = past(d, tag, link);
             }
         }
     }
 }
 
-// Whether the record at the word `at` is a node to pass.
+// Whether the record at the word `at` is a node to pass. Both links are read, so that the next record's
+// place waits for a choice and not for another read.
 fn turn_at(table: &[u32], k: Prefix, at: usize, low: u32) -> Turn
     requires { ⌜ (isTable (length (now table)) ≡ true) × Whole at × (k .width ≤ 128) ⌝ }
     ensures { λ x. ⌜ Turned (now (table .entry)) k at low x ⌝ }
@@ -69,6 +70,8 @@ fn turn_at(table: &[u32], k: Prefix, at: usize, low: u32) -> Turn
         return Turn::Off;
     }
     let tag = records::tag_at(table, at);
+    let left = records::left_at(table, at);
+    let right = records::right_at(table, at);
     let w = tag / 2;
     if w < low {
         return Turn::Off;
@@ -80,7 +83,7 @@ fn turn_at(table: &[u32], k: Prefix, at: usize, low: u32) -> Turn
     if 1 < x {
         return Turn::Off;
     }
-    Turn::On(tag, x as usize)
+    Turn::On(tag, either(x == 0, left, right))
 }
 
 // A width, but no more than 64.
@@ -90,25 +93,31 @@ fn half(w: u32) -> u32
     if w < 64 { w } else { 64 }
 }
 
-// The descent past the node where it stands.
-fn past(table: &[u32], d: Descent, tag: u32, side: usize) -> Descent
-    requires { ⌜ Whole (d .next) × (d .next + 8 ≤ length (now table)) × (side ≤ 1) × (d .n < 129) × (d .next < 524288) ⌝ }
-    ensures { λ r. ⌜ (r ≡ pastOn (now (table .entry)) d tag side) × (r .next / 8 < 2 ^ 32) ⌝ }
+fn either(first: bool, x: u32, y: u32) -> u32
+    ensures { λ r. ⌜ r ≡ cond first x y ⌝ }
+{
+    if first { x } else { y }
+}
+
+// The descent past the node where it stands, by the link.
+fn past(d: Descent, tag: u32, link: u32) -> Descent
+    requires { ⌜ (d .n < 129) × (d .next < 524288) ⌝ }
+    ensures { λ r. ⌜ (r ≡ pastOn d tag link) × (r .next / 8 < 2 ^ 32) ⌝ }
 {
     let at = d.next;
     Descent {
-        next: records::RECORD * (records::side_at(table, at, side) as usize),
-        held: either(tag % 2 == 1, at, d.held),
+        next: records::RECORD * (link as usize),
+        held: held_of(tag % 2 == 1, at, d.held),
         low: tag / 2 + 1,
         last: (d.last << 20) + (at as u64),
         n: d.n + 1,
     }
 }
 
-fn either(first: bool, x: usize, y: usize) -> usize
-    ensures { λ r. ⌜ r ≡ cond first x y ⌝ }
+fn held_of(stored: bool, at: usize, before: usize) -> usize
+    ensures { λ r. ⌜ r ≡ cond stored at before ⌝ }
 {
-    if first { x } else { y }
+    if stored { at } else { before }
 }
 
 // ---- what a descent stands for

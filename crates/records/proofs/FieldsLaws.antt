@@ -1,16 +1,14 @@
 -- The laws of a record's fields, one for each function that reads one of them by where the record starts.
 -- No contract cites this file.
 -- Assumes nothing.
-use Prim.Native.Nat.{ℕ, _+_, _≤_}
-use native.Mathlib.Omega.{arith}
+use Prim.Native.Nat.{ℕ, _+_}
 use mathlib.Core.Path.{_≡_}
 use mathlib.Core.List.{List, _++_}
-use lib.Dec.{eqb}
 use lib.ListN.{getD}
 use Rattle.bits.specs.Numbers.{bitsOf}
 use Rattle.prefix.specs.Keys.{High}
 use Rattle.prefix.proofs.HalvesLaws.{high-pair}
-use Rattle.records.specs.Layout.{place, recordAt, keyOf, sideOf}
+use Rattle.records.specs.Layout.{place, recordAt, keyOf}
 
 module _ (ws : List ℕ) (at l : ℕ) (e : at ≡ place l) where
   pub tag-at : getD ws (at + 7) 0 ≡ recordAt ws l .tag
@@ -25,10 +23,10 @@ module _ (ws : List ℕ) (at l : ℕ) (e : at ≡ place l) where
   unfolding recordAt keyOf
   high-at r h = high-pair (keyOf (recordAt ws l)) r (rw (← e) h)
 
-  pub side-left : (x : ℕ) → x ≡ 0 → getD ws (at + 5) 0 ≡ sideOf (recordAt ws l) (eqb x 1)
+  pub left-at : getD ws (at + 5) 0 ≡ recordAt ws l .left
   unfolding recordAt
-  side-left x h = rw (e, h)
+  left-at = rw e
 
-  pub side-right : (x : ℕ) → x ≤ 1 → (x ≡ 0 → ⊥) → getD ws (at + 6) 0 ≡ sideOf (recordAt ws l) (eqb x 1)
+  pub right-at : getD ws (at + 6) 0 ≡ recordAt ws l .right
   unfolding recordAt
-  side-right x h ne = let one : x ≡ 1 = omega arith in rw (e, one)
+  right-at = rw e

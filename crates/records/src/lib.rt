@@ -4,10 +4,9 @@
 use prefix::Prefix;
 ghost use Prim.Native.Nat.{ℕ, _+_, _≤_};
 ghost use mathlib.Core.Path.{_≡_};
-ghost use lib.Dec.{eqb};
 ghost use lib.ListN.{length};
 ghost use Rattle.prefix.specs.Keys.{High};
-ghost use Rattle.records.specs.Layout.{isTable, place, roomOf, Inside, recordAt, headerAt, withRecord, withHeader, sideOf};
+ghost use Rattle.records.specs.Layout.{isTable, place, roomOf, Inside, recordAt, headerAt, withRecord, withHeader};
 ghost use Rattle.records.specs.Layout.{keyOf as keyIn};
 
 // One node record. A link is 0 for none, else the number of a record, the first being 1. The tag is
@@ -145,13 +144,18 @@ pub fn high_at(table: &[u32], at: usize) -> u64
     prefix::pair(table[at + 1], table[at])
 }
 
-// The link of the side of 0, or of the side of 1. Both are read, so that the next record's place waits for
-// one choice and not for another read.
-pub fn side_at(table: &[u32], at: usize, x: usize) -> u32
-    requires { ⌜ (at + 8 ≤ length (now table)) × (x ≤ 1) ⌝ }
-    ensures { λ r. ⌜ ((l : ℕ) → at ≡ place l → r ≡ sideOf (recordAt (now (table .entry)) l) (eqb x 1)) ⌝ }
+// The link of the side of 0.
+pub fn left_at(table: &[u32], at: usize) -> u32
+    requires { ⌜ at + 8 ≤ length (now table) ⌝ }
+    ensures { λ r. ⌜ ((l : ℕ) → at ≡ place l → r ≡ recordAt (now (table .entry)) l .left) ⌝ }
 {
-    let left = table[at + 5];
-    let right = table[at + 6];
-    if x == 0 { left } else { right }
+    table[at + 5]
+}
+
+// The link of the side of 1.
+pub fn right_at(table: &[u32], at: usize) -> u32
+    requires { ⌜ at + 8 ≤ length (now table) ⌝ }
+    ensures { λ r. ⌜ ((l : ℕ) → at ≡ place l → r ≡ recordAt (now (table .entry)) l .right) ⌝ }
+{
+    table[at + 6]
 }

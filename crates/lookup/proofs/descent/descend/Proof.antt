@@ -43,10 +43,10 @@ past-requires c κs =
     let i = c .before .before .before .before .loop .inv in
     let start = c .before .before .before .before .before .before in
     let p = passed c in
-    (i .sound .next-whole, p .room, p .sides, omega (arith, i .few, i .early), room-most (start .args .table .now) _ (start .pre .0) (p .room))
+    (omega (arith, i .few, i .early), room-most (start .args .table .now) _ (start .pre .0) (p .room))
 
 loop-less : tie.Need-loop-less Inv-loop μ-loop
-loop-less c = omega (arith, passed (c .before) .grown, passed (c .before) .early, low-past _ _ _ _ _ (c .past .ensures .0))
+loop-less c = omega (arith, passed (c .before) .grown, passed (c .before) .early, low-past _ _ _ _ (c .past .ensures .0))
 
 loop-again : tie.Need-loop-again Inv-loop μ-loop
 loop-again c =

@@ -6,7 +6,7 @@ use Rattle.lookup.proofs.descent.past.Statement.{statement}
 use Rattle.lookup.proofs.descent.past.Tie as tie
 
 returns : tie.Need-returns
-returns c = pastOn-past _ _ _ _ _ _ (search needs) (c .before .before .before .side-at .ensures) (search needs) (search needs)
+returns c = pastOn-past _ _ _ _ (search needs) (search needs)
 
 pub past-spec : {M : Type 1} → statement M
-past-spec = tie.close (tie.spec (λ c κs. search needs) (λ c. search needs) (λ c. search needs) (λ c κs. search needs) (λ c. search needs) (λ c. search needs) (λ c. search needs) returns)
+past-spec = tie.close (tie.spec (λ c. search needs) (λ c κs. search needs) (λ c. search needs) (λ c. search needs) (λ c. search needs) returns)
