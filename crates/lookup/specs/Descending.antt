@@ -1,6 +1,6 @@
 -- The upper part of a path walk, which carries less: what it stands for.
 -- Paper 01, "The tree of a set": "all nodes that are prefixes of k, shortest first".
---   Whole at          a record starts at the word `at`, or none does there
+--   Whole at          a record may start at the word `at`
 --   Held ws at        a record of ws starts at the word `at`, or `at` is 0
 --   Passed            what is known of a node that is passed
 --   Turned            the contract of `turn_at`
