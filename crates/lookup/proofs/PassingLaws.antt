@@ -2,7 +2,6 @@
 -- top comes to. No contract cites this file.
 -- Assumes nothing.
 use Prim.Native.Nat.{ℕ, _+_, _*_, _/_, _%_, _^_, _≤_, _<_, min}
-use native.Mathlib.Nat.{add-zero, mul-mod-left}
 use native.Mathlib.Decide.{decLt}
 use native.Mathlib.Omega.{arith}
 use mathlib.Core.Path.{_≡_, refl, sym, ap, subst, _∙_}
@@ -10,12 +9,13 @@ use mathlib.Core.Bool.{Bool, true, false, cond}
 use mathlib.Core.List.{List}
 use lib.Dec.{eqb}
 use lib.ListN.{length, set}
-use lib.Pow.{mod-pow-add, shl-shr, shr-shr, high, low, field, mod-mod-pow}
+use lib.Pow.{shr-shr, high, low, field, mod-mod-pow}
 use borrow.Author.Tests.{lt-ltb, le-ltb, eq-eqb, ne-eqb}
 use Rattle.bits.specs.Numbers.{odd}
 use Rattle.bits.proofs.BitsLaws.{length-lcp-take}
 use Rattle.prefix.specs.Keys.{wordBits, stringOf}
 use Rattle.prefix.specs.declared.Prefix.{Prefix}
+use Rattle.prefix.proofs.HalvesLaws.{shifted-mod}
 use Rattle.records.specs.Layout.{isTable, place, recordAt, headerAt, keyOf}
 use Rattle.records.specs.declared.Record.{Record}
 use Rattle.records.proofs.LayoutLaws.{isTable-true, room-roomOf}
@@ -30,11 +30,7 @@ use Rattle.lookup.proofs.DescentLaws.{nextIn-on}
 -- ---- the last nodes, when one more is put below them
 
 pushed : (x l : ℕ) → x * 1048576 % 2 ^ 64 + l ≡ x % 2 ^ 44 * 2 ^ 20 + l
-pushed x l =
-    let e : x * 2 ^ 20 % 2 ^ 64 ≡ (x * 2 ^ 20 / 2 ^ 20 % 2 ^ 44) * 2 ^ 20 + x * 2 ^ 20 % 2 ^ 20 = mod-pow-add (x * 2 ^ 20) 44 20 in
-    let d : x * 2 ^ 20 / 2 ^ 20 ≡ x = shl-shr x 20 in
-    let m : x * 2 ^ 20 % 2 ^ 20 ≡ 0 = mul-mod-left x (2 ^ 20) in
-    ap (λ (y : ℕ). y + l) (e ∙ rw (d, m) (add-zero _))
+pushed x l = ap (λ (y : ℕ). y + l) (shifted-mod 44 20 x)
 
 module _ (x l : ℕ) (h : l < 1048576) where
   pushed-first : l ≡ (x * 1048576 % 2 ^ 64 + l) % 1048576

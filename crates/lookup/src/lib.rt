@@ -1,6 +1,6 @@
 // Reading a lent table: the path walk, and the two calls that it serves, fetch and longest match.
-// No public call has a `requires`. A walk reads each node of the key's path once, and no other
-// record (docs/READS.md).
+// No public call has a `requires`. A walk reads the nodes of the key's path, and no other record
+// (docs/READS.md).
 use prefix::Prefix;
 ghost use Prim.Native.Nat.{_≤_};
 ghost use mathlib.Core.Path.{_≡_};

@@ -50,7 +50,8 @@ low-pair p r e =
 
 -- ---- clear
 
-shifted-mod : (m n x : ℕ) → x * 2 ^ n % 2 ^ (m + n) ≡ x % 2 ^ m * 2 ^ n
+-- what a shift up leaves of a number in m + n bits
+pub shifted-mod : (m n x : ℕ) → x * 2 ^ n % 2 ^ (m + n) ≡ x % 2 ^ m * 2 ^ n
 shifted-mod m n x = mod-pow-add (x * 2 ^ n) m n ∙ rw (shl-shr x n, mul-mod-left x (2 ^ n)) (add-zero _)
 
 eqb-shifted : (y n : ℕ) → eqb (y * 2 ^ n) 0 ≡ eqb y 0

@@ -66,6 +66,7 @@ pub record Cut (a : Prefix) (n : ℕ) (r : Prefix) : Type 0 where
   pub string : stringOf r ≡ take n (stringOf a)
   pub valid : Valid r
 
+-- the four words two by two: "Bit 1 is the highest bit of word 0; bit 128 is the lowest bit of word 3."
 abbrev pub High : Prefix → ℕ → Type 0
 High p x = bitsOf 64 x ≡ take 64 (wordBits p)
 
