@@ -8,7 +8,7 @@ use mathlib.Core.Path.{_≡_, refl, sym, ap, ap₂, _∙_}
 use mathlib.Core.Bool.{Bool, true, false, _&&_}
 use mathlib.Core.List.{[]}
 use lib.Dec.{eqb, leb}
-use lib.ListN.{length, getD, take, drop, length-take, drop-of-length-le}
+use lib.ListN.{length, getD, take, drop, length-take, length-drop, drop-of-length-le}
 use lib.Seq.{take-take, getD-take}
 use borrow.Author.Tests.{le-leb, lt-leb, leb-true, eq-eqb, ne-eqb}
 use Rattle.bits.specs.Bits.{lcp, order, isPrefix, meet}
@@ -16,8 +16,8 @@ use Rattle.bits.specs.Numbers.{bitsOf, value, clear, blank, numberOrder, orElse
 use Rattle.bits.specs.declared.Meeting.the-variants.{Equal, Below, Above, Apart}
 use Rattle.bits.proofs.BitsLaws.{length-lcp-take, isPrefix-lcp}
 use Rattle.bits.proofs.MeetLaws.{meet-apart, meet-above, meet-below, meet-equal}
-use Rattle.bits.proofs.BlankLaws.{length-blank, take-blank, clear-drop-blank, blank-clear, blank-ext, orElse-assoc, order-take}
-use Rattle.bits.proofs.NumbersLaws.{length-bitsOf}
+use Rattle.bits.proofs.BlankLaws.{length-blank, blank-all, take-blank, clear-drop-blank, blank-clear, blank-ext, orElse-assoc, order-take}
+use Rattle.bits.proofs.NumbersLaws.{length-bitsOf, bitsOf-zero}
 use Rattle.bits.proofs.ValueLaws.{value-lt, bitsOf-value}
 use Rattle.prefix.specs.Keys.{wordBits, stringOf, isValid, Valid, cutOf, Validity, Shared, Cut, High, Low}
 use Rattle.prefix.specs.declared.Prefix.{Prefix}
@@ -179,7 +179,7 @@ small-cutOf a n = (blank-lt n (a .w0), blank-lt (n - 32) (a .w1), blank-lt (n - 
     blank-lt : (m x : ℕ) → value (blank m (bitsOf 32 x)) < 2 ^ 32
     blank-lt m x = rw (length-blank, length-bitsOf) at (value-lt (blank m (bitsOf 32 x)))
 
-pub cut-promise : (a : Prefix) (n m x y u v r0 r1 r2 r3 : ℕ) → a .width ≤ 128 → n ≤ a .width → High a x → Low a y → m ≡ n - 64 → u < 2 ^ 64
+cut-promise : (a : Prefix) (n m x y u v r0 r1 r2 r3 : ℕ) → a .width ≤ 128 → n ≤ a .width → High a x → Low a y → m ≡ n - 64 → u < 2 ^ 64
     → v < 2 ^ 64 → bitsOf 64 u ≡ blank n (bitsOf 64 x) → bitsOf 64 v ≡ blank m (bitsOf 64 y) → r0 ≡ u / 4294967296 → r1 ≡ u % 4294967296
     → r2 ≡ v / 4294967296 → r3 ≡ v % 4294967296 → Cut a n (record { width = n; w0 = r0; w1 = r1; w2 = r2; w3 = r3 })
 unfolding cutOf
@@ -189,3 +189,18 @@ cut-promise a n m x y u v r0 r1 r2 r3 g h hx hy em bu bv eu ev e0 e1 e2 e3 =
     let small : Small r = (omega arith, omega arith, omega arith, omega arith) in
     let i = wordBits-inj r (cutOf a n) small (small-cutOf a n) (e ∙ sym (wordBits-cutOf a n)) in
     cut-blank a r (λ j. record { width = n; w0 = i .0 j; w1 = i .1 j; w2 = i .2 j; w3 = i .3 j }) h g e
+
+-- one law for each way out: the second half goes whole, or the first stays whole
+module _ (a : Prefix) (n : ℕ) (g : a .width ≤ 128) (h : n ≤ a .width) (x : ℕ) (hx : High a x) where
+  pub cut-short : (u r0 r1 : ℕ) → n < 64 → u < 2 ^ 64 → bitsOf 64 u ≡ blank n (bitsOf 64 x) → r0 ≡ u / 4294967296 → r1 ≡ u % 4294967296
+      → Cut a n (record { width = n; w0 = r0; w1 = r1; w2 = 0; w3 = 0 })
+  cut-short u r0 r1 f b e e0 e1 =
+      let half : ℕ = value (drop 64 (wordBits a)) in
+      let low : Low a half = rw (length-drop, length-wordBits) at (bitsOf-value (drop 64 (wordBits a))) in
+      cut-promise a n 0 x half u 0 r0 r1 0 0 g h hx low (omega arith) b (omega arith) e (bitsOf-zero 64 half) e0 e1 refl refl
+
+  pub cut-long : (y v r0 r1 r2 r3 : ℕ) → 64 ≤ n → x < 2 ^ 64 → v < 2 ^ 64 → Low a y → bitsOf 64 v ≡ blank (n - 64) (bitsOf 64 y)
+      → r0 ≡ x / 4294967296 → r1 ≡ x % 4294967296 → r2 ≡ v / 4294967296 → r3 ≡ v % 4294967296
+      → Cut a n (record { width = n; w0 = r0; w1 = r1; w2 = r2; w3 = r3 })
+  cut-long y v r0 r1 r2 r3 f bx bv hy e =
+      cut-promise a n (n - 64) x y x v r0 r1 r2 r3 g h hx hy refl bx bv (sym (blank-all n (bitsOf 64 x) (omega (arith, length-bitsOf 64 x)))) e

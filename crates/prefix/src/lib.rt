@@ -2,7 +2,7 @@
 // 64 bits, with no loop over bits, and is proved against the bit string that the prefix is.
 use bits::Meeting;
 use bits::Order;
-ghost use Prim.Native.Nat.{_-_, _/_, _%_, _≤_, _<_, min};
+ghost use Prim.Native.Nat.{_/_, _%_, _≤_, _<_, min};
 ghost use mathlib.Core.Path.{_≡_};
 ghost use mathlib.Core.Bool.{false};
 ghost use mathlib.Core.List.{_++_};
@@ -77,8 +77,18 @@ pub fn cut(a: Prefix, n: u32) -> Prefix
     requires { ⌜ (a .width ≤ 128) × (n ≤ a .width) ⌝ }
     ensures { λ r. ⌜ Cut a n r ⌝ }
 {
-    let x = keep(high(a), n);
-    let y = keep(low(a), minus(n, 64));
+    if n < 64 {
+        let x = keep(high(a), n);
+        return Prefix {
+            width: n,
+            w0: top(x),
+            w1: bottom(x),
+            w2: 0,
+            w3: 0,
+        };
+    }
+    let x = high(a);
+    let y = keep(low(a), n - 64);
     Prefix {
         width: n,
         w0: top(x),
@@ -228,11 +238,4 @@ fn least(x: u32, y: u32) -> u32
     ensures { λ r. ⌜ r ≡ min x y ⌝ }
 {
     if x < y { x } else { y }
-}
-
-// x less y, and 0 where y is more.
-fn minus(x: u32, y: u32) -> u32
-    ensures { λ r. ⌜ r ≡ x - y ⌝ }
-{
-    if x < y { 0 } else { x - y }
 }

@@ -12,10 +12,10 @@ use mathlib.Core.Bool.{Bool, true, false, _&&_, not}
 use mathlib.Core.List.{List, [], _∷_}
 use lib.Dec.{leb, ltb, eqb}
 use lib.ListN.{length, getD, set, length-set}
-use lib.Seq.{sets, getD-set-same, getD-set-other}
+use lib.Seq.{sets, getD-set-same, getD-set-other, set-getD}
 use borrow.Author.Tests.{leb-true, ltb-true, eqb-true, le-leb, lt-ltb, eq-eqb, not-false}
 use Rattle.prefix.proofs.KeysLaws.{both-true}
-use Rattle.records.specs.Layout.{tableLength, isTable, capacity, place, roomOf, Inside, recordAt, headerAt, withRecord, withHeader}
+use Rattle.records.specs.Layout.{tableLength, isTable, capacity, place, roomOf, Inside, recordAt, headerAt, withRecord, withHeader, withSide}
 use Rattle.records.specs.declared.Record.{Record}
 use Rattle.records.specs.declared.Header.{Header}
 
@@ -155,6 +155,39 @@ recordAt-withRecord-other ws l r j h =
     side k f (yes b) = inl (omega arith)
     side k f (no b) = inr (omega arith)
 
+-- a word set after another one to what it was is no change
+set-kept : (ws : List ℕ) (i j x : ℕ) → (j ≡ i → ⊥) → set (set ws i x) j (getD ws j 0) ≡ set ws i x
+set-kept ws i j x ne = ap (set (set ws i x) j) (sym (getD-set-other ws i j x 0 ne)) ∙ set-getD (set ws i x) j 0
+
+-- the record with another link on one side: that word alone is set
+module _ (ws : List ℕ) (l x : ℕ) where
+  -- the words before a record's links, set to what they are
+  same-head : set (set (set (set (set ws (place l) (getD ws (place l) 0)) (place l + 1) (getD ws (place l + 1) 0)) (place l + 2) (getD ws (place l + 2) 0))
+      (place l + 3) (getD ws (place l + 3) 0)) (place l + 4) (getD ws (place l + 4) 0) ≡ ws
+  same-head =
+      rw (
+        set-getD ws (place l) 0,
+        set-getD ws (place l + 1) 0,
+        set-getD ws (place l + 2) 0,
+        set-getD ws (place l + 3) 0,
+        set-getD ws (place l + 4) 0,
+      )
+
+  pub withRecord-left : (b : Bool) → b ≡ false → set ws (place l + 5) x ≡ withRecord ws l (withSide (recordAt ws l) b x)
+  unfolding withRecord recordAt
+  withRecord-left b e =
+      rw (
+        e,
+        same-head,
+        set-kept ws (place l + 5) (place l + 6) x (λ e. omega arith),
+        set-kept ws (place l + 5) (place l + 7) x (λ e. omega arith),
+      )
+
+  pub withRecord-right : (b : Bool) → b ≡ true → set ws (place l + 6) x ≡ withRecord ws l (withSide (recordAt ws l) b x)
+  unfolding withRecord recordAt
+  withRecord-right b e =
+      rw (e, same-head, set-getD ws (place l + 5) 0, set-kept ws (place l + 6) (place l + 7) x (λ e. omega arith))
+
 pub headerAt-withRecord : (ws : List ℕ) (l : ℕ) (r : Record) → 0 < l → headerAt (withRecord ws l r) ≡ headerAt ws
 unfolding headerAt
 headerAt-withRecord ws l r h =
@@ -165,6 +198,10 @@ headerAt-withRecord ws l r h =
 pub length-withHeader : (ws : List ℕ) (h : Header) → length (withHeader ws h) ≡ length ws
 unfolding withHeader
 length-withHeader ws h = simp length-set
+
+pub withHeader-headerAt : (ws : List ℕ) → withHeader ws (headerAt ws) ≡ ws
+unfolding headerAt withHeader
+withHeader-headerAt ws = rw (set-getD ws 0 0, set-getD ws 1 0)
 
 pub recordAt-withHeader : (ws : List ℕ) (h : Header) (l : ℕ) → 0 < l → recordAt (withHeader ws h) l ≡ recordAt ws l
 unfolding withHeader

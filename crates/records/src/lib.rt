@@ -6,7 +6,7 @@ ghost use Prim.Native.Nat.{ℕ, _+_, _≤_};
 ghost use mathlib.Core.Path.{_≡_};
 ghost use lib.ListN.{length};
 ghost use Rattle.prefix.specs.Keys.{High};
-ghost use Rattle.records.specs.Layout.{isTable, place, roomOf, Inside, recordAt, headerAt, withRecord, withHeader};
+ghost use Rattle.records.specs.Layout.{isTable, place, roomOf, Inside, recordAt, headerAt, withRecord, withHeader, withSide};
 ghost use Rattle.records.specs.Layout.{keyOf as keyIn};
 
 // One node record. A link is 0 for none, else the number of a record, the first being 1. The tag is
@@ -104,6 +104,19 @@ pub fn write_record(table: &mut [u32], l: u32, r: Record)
     table[at + 5] = r.left;
     table[at + 6] = r.right;
     table[at + 7] = r.tag;
+}
+
+// The link of one side of a record, that of 1 or that of 0, and no other word.
+pub fn write_side(table: &mut [u32], l: u32, right: bool, x: u32)
+    requires { ⌜ Inside (now table) l ⌝ }
+    ensures { λ _. ⌜ now (table .exit) ≡ withRecord (now (table .entry)) l (withSide (recordAt (now (table .entry)) l) right x) ⌝ }
+{
+    let at = RECORD * (l as usize);
+    if right {
+        table[at + 6] = x;
+        return;
+    }
+    table[at + 5] = x;
 }
 
 // The key of a record, as wide as its tag says.
