@@ -39,9 +39,9 @@ use Rattle.lookup.proofs.RestsLaws.{surveyOn-rests}
 use Rattle.lookup.proofs.EndsLaws.{lowOf, Stood, StoodAt, EndedBy, Ended, surveyOn-ends}
 use Rattle.lookup.proofs.FramesLaws.{Along, AtTop, linkAt-path, below-path}
 use Rattle.plans.specs.Planning.{applied, spareOn, planStoreOn, planRemoveOn}
-use Rattle.plans.specs.declared.Plan.{Plan}
-use Rattle.plans.specs.declared.Planned.{Planned}
-use Rattle.plans.specs.declared.Planned.the-variants as planned
+use Rattle.plans.specs.Plans.{Plan}
+use Rattle.plans.specs.Planned.{Planned}
+use Rattle.plans.specs.Planned as planned
 use Rattle.plans.specs.declared.Spare.{Spare}
 use Rattle.plans.specs.declared.Spare.the-variants as spare
 use Rattle.edits.specs.Storing.{Edit, storedBy, storedOf, storeOn}

@@ -13,7 +13,7 @@ use Rattle.records.specs.Layout.{isTable, capacity, withRecord, withHeader}
 use Rattle.records.specs.Holds.{Holds}
 use Rattle.records.specs.declared.Record.{Record}
 use Rattle.plans.specs.Planning.{freedOf}
-use Rattle.edits.specs.Fresh.{nextOf, blankOf, chainedOn, freshOn, Fresh}
+use Rattle.edits.specs.Fresh.{nextOf, chainedOn, freshOn, Fresh}
 use Rattle.edits.specs.declared.Freshened.the-variants.{Done, BadLength}
 use Rattle.edits.proofs.FreshTableLaws.{freshOn-holds}
 
@@ -51,7 +51,7 @@ module _ (ws : List ℕ) (b : Bool) (e : b ≡ isTable (length ws)) where
       bad : false ≡ true → ⊥
       bad h = let z : _≡_ {A = ℕ} 0 1 = cc in omega arith
 
-  pub fresh-done : (y : Record) (t u v : List ℕ) → not b ≡ false → y ≡ blankOf → t ≡ withRecord ws 0 y
+  pub fresh-done : (y : Record) (t u v : List ℕ) → not b ≡ false → y ≡ freedOf 0 → t ≡ withRecord ws 0 y
       → u ≡ chainedOn t (length ws / 8 - 1) (length ws / 8 - 1) → v ≡ withHeader u (record { root = 0; spare = 1 }) → Fresh ws Done v
   unfolding freshOn capacity
   fresh-done y t u v n p q r s =

@@ -16,7 +16,7 @@ use Rattle.records.specs.Layout.{tableLength, isTable, capacity, place, Inside,
 use Rattle.records.specs.Holds.{Memory, Chained, times, Once, Holds}
 use Rattle.records.proofs.LayoutLaws.{Table, isTable-true, length-withRecord, recordAt-withRecord-same, recordAt-withRecord-other, headerAt-withRecord, length-withHeader, recordAt-withHeader, headerAt-withHeader}
 use Rattle.plans.specs.Planning.{freedOf}
-use Rattle.edits.specs.Fresh.{nextOf, blankOf, chainedOn, freshOn}
+use Rattle.edits.specs.Fresh.{nextOf, chainedOn, freshOn}
 
 -- ---- chainedOn
 
@@ -123,7 +123,7 @@ module _ (ws : List ℕ) (h : Table (length ws)) where
   unfolding freshOn
   recordAt-freshOn l f g =
       recordAt-withHeader _ _ l f
-      ∙ recordAt-chainedOn (withRecord ws 0 blankOf) (capacity (length ws)) (capacity (length ws)) l f g
+      ∙ recordAt-chainedOn (withRecord ws 0 (freedOf 0)) (capacity (length ws)) (capacity (length ws)) l f g
       (rw length-withRecord (omega (arith, length-capacity)))
 
 -- a fresh table holds the empty map

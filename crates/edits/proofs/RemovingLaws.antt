@@ -1,8 +1,7 @@
--- The laws of remove: that its plan fits, one for each way out, and the one that makes the contract of the
--- answer.
+-- The laws of remove: one for each way out, and the one that makes the contract of the answer.
 -- No contract cites this file.
 -- Assumes nothing.
-use Prim.Native.Nat.{ℕ, suc, _+_, _≤_}
+use Prim.Native.Nat.{ℕ, suc, _+_}
 use mathlib.Core.Path.{_≡_, refl, sym, ap, subst, _∙_}
 use mathlib.Core.Bool.{Bool, true, false, cond}
 use mathlib.Core.List.{List, [], _∷_}
@@ -17,11 +16,12 @@ use Rattle.lookup.specs.declared.Met.{Met}
 use Rattle.lookup.specs.declared.Surveyed.{Surveyed}
 use Rattle.lookup.specs.declared.Surveyed.the-variants as surveyed
 use Rattle.lookup.proofs.SurveyLaws.{refusalOf, surveyOn-refusal}
-use Rattle.plans.specs.Planning.{Fitting, applied, planRemoveOn}
-use Rattle.plans.specs.declared.Plan.{Plan}
-use Rattle.plans.specs.declared.Planned.{Planned}
-use Rattle.plans.specs.declared.Planned.the-variants as planned
-use Rattle.plans.proofs.FittingLaws.{fitting-remove}
+use Rattle.plans.specs.Planning.{planRemoveOn}
+use Rattle.plans.specs.Planned.{Planned}
+use Rattle.plans.specs.Planned as planned
+use Rattle.plans.specs.Making.{madeOf, leftBy, Makes}
+use Rattle.plans.specs.declared.Made.{Made}
+use Rattle.plans.specs.declared.Made.the-variants as made
 use Rattle.edits.specs.Storing.{Edit, refused}
 use Rattle.edits.specs.Removing.{removedBy, removedOf, removeOn, numberOf, valuesOf, Remove}
 use Rattle.edits.specs.declared.Removal.{Removal}
@@ -29,13 +29,18 @@ use Rattle.edits.specs.declared.Removal.the-variants.{Removed, Damaged, 
 use Rattle.edits.proofs.RemoveHoldsLaws.{removeOn-holds}
 use Rattle.edits.proofs.StoringLaws.{holds-words}
 
--- ---- planRemoveOn: the plan y fits
+-- ---- removeOn, where the survey gives x, and y is made and leaves the words `now`
 
-pub remove-fits : (ws : List ℕ) (k : Prefix) (s : Walk) (y : Planned) (p : Plan) → 16 ≤ length ws → y ≡ planRemoveOn ws k s
-    → y ≡ planned.Go p → Fitting ws p
-remove-fits ws k s y p long d q = fitting-remove ws k s p long (sym d ∙ q)
+abbrev removedAs : List ℕ → List ℕ → ℕ → Walk → List ℕ → Made → Edit Removal
+removedAs bs ts n s now made.Done = record { answer = Removed n (s .zone); bytes = paste bs 0 ts n; words = now }
+removedAs bs ts n s now made.Damaged = refused Damaged bs now
+removedAs bs ts n s now made.Full = refused Damaged bs now
 
--- ---- removeOn, where the survey gives x
+removedBy-made : (ws bs ts : List ℕ) (n : ℕ) (s : Walk) (p : Planned)
+    → removedBy ws bs ts n s p ≡ removedAs bs ts n s (leftBy ws p) (madeOf p)
+removedBy-made ws bs ts n s (planned.Go p) = refl
+removedBy-made ws bs ts n s planned.Damaged = refl
+removedBy-made ws bs ts n s planned.Full = refl
 
 module _ (ws : List ℕ) (k : Prefix) (bs us : List ℕ) (x : Surveyed)
     (e : surveyOn ws k (length bs) (replicate 129 0) ≡ record { widths = us; out = x }) where
@@ -49,19 +54,21 @@ module _ (ws : List ℕ) (k : Prefix) (bs us : List ℕ) (x : Surveyed)
         → removeOn ws k bs ≡ record { answer = Absent n; bytes = after; words = ws }
     removeOn-absent after h g = removeOn-survey (surveyed.Path n s m) q ∙ simp (ne-eqb _ _ h, g)
 
-    module _ (y : Planned) (f : y ≡ planRemoveOn ws k s) (h : s .best ≡ k .width + 1) where
-      removeOn-plan : removeOn ws k bs ≡ removedBy ws bs us n s y
-      removeOn-plan = removeOn-survey (surveyed.Path n s m) q ∙ simp (eq-eqb _ _ h, f)
+    module _ (y : Made) (now : List ℕ) (f : Makes ws (planRemoveOn ws k s) y now) (h : s .best ≡ k .width + 1) where
+      removeOn-made : removeOn ws k bs ≡ removedAs bs us n s now y
+      removeOn-made =
+          removeOn-survey (surveyed.Path n s m) q
+          ∙ rw (eq-eqb (s .best) (k .width + 1) h, f .answer, f .words) (removedBy-made ws bs us n s (planRemoveOn ws k s))
 
-      pub removeOn-damaged : y ≡ planned.Damaged → removeOn ws k bs ≡ refused Damaged bs ws
-      removeOn-damaged g = removeOn-plan ∙ rw g
+      pub removeOn-damaged : y ≡ made.Damaged → removeOn ws k bs ≡ refused Damaged bs now
+      removeOn-damaged g = rw g at removeOn-made
 
-      pub removeOn-full : y ≡ planned.Full → removeOn ws k bs ≡ refused Damaged bs ws
-      removeOn-full g = removeOn-plan ∙ rw g
+      pub removeOn-full : y ≡ made.Full → removeOn ws k bs ≡ refused Damaged bs now
+      removeOn-full g = rw g at removeOn-made
 
-      pub removeOn-go : (p : Plan) (after now : List ℕ) → y ≡ planned.Go p → after ≡ paste bs 0 us n → now ≡ applied ws p
+      pub removeOn-done : (after : List ℕ) → y ≡ made.Done → after ≡ paste bs 0 us n
           → removeOn ws k bs ≡ record { answer = Removed n (s .zone); bytes = after; words = now }
-      removeOn-go p after now g i j = removeOn-plan ∙ rw (g, i, j)
+      removeOn-done after g i = rw i (rw g at removeOn-made)
 
 -- ---- what any answer of removeOn shows
 

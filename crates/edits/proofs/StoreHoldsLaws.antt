@@ -26,7 +26,7 @@ use Rattle.lookup.proofs.HoldsLaws.{leaveOn-holds, get-noted}
 use Rattle.lookup.proofs.FramesLaws.{focus-at}
 use Rattle.lookup.proofs.EndsLaws.{Ended, surveyOn-ends}
 use Rattle.plans.specs.Planning.{entryOf, planStoreOn}
-use Rattle.plans.specs.declared.Planned.{Planned}
+use Rattle.plans.specs.Planned.{Planned}
 use Rattle.plans.proofs.AppliedLaws.{length-applied}
 use Rattle.edits.specs.Storing.{Edit, acceptedOf, storedBy, storeOn, says, gives}
 use Rattle.edits.specs.declared.Stored.{Stored}

@@ -1,5 +1,5 @@
--- The laws of store: what a survey with a path tells, that its plan fits, one law for each way out, and the
--- one that makes the contract of the answer.
+-- The laws of store: what a survey with a path tells, one law for each way out, and the one that makes the
+-- contract of the answer.
 -- No contract cites this file.
 -- Assumes nothing.
 use Prim.Native.Nat.{ℕ, suc, _+_, _≤_}
@@ -20,11 +20,12 @@ use Rattle.lookup.specs.declared.Met.{Met}
 use Rattle.lookup.specs.declared.Surveyed.{Surveyed}
 use Rattle.lookup.specs.declared.Surveyed.the-variants as surveyed
 use Rattle.lookup.proofs.SurveyLaws.{surveyOn-cases, refusalOf, surveyOn-refusal}
-use Rattle.plans.specs.Planning.{Fitting, applied, planStoreOn}
-use Rattle.plans.specs.declared.Plan.{Plan}
-use Rattle.plans.specs.declared.Planned.{Planned}
-use Rattle.plans.specs.declared.Planned.the-variants as planned
-use Rattle.plans.proofs.FittingLaws.{fitting-store}
+use Rattle.plans.specs.Planning.{planStoreOn}
+use Rattle.plans.specs.Planned.{Planned}
+use Rattle.plans.specs.Planned as planned
+use Rattle.plans.specs.Making.{madeOf, leftBy, Makes}
+use Rattle.plans.specs.declared.Made.{Made}
+use Rattle.plans.specs.declared.Made.the-variants as made
 use Rattle.edits.specs.Storing.{Edit, refused, acceptedOf, storedBy, storedOf, storeOn, numberOf, valuesOf, Store}
 use Rattle.edits.specs.declared.Stored.{Stored}
 use Rattle.edits.specs.declared.Stored.the-variants.{Added, Replaced, Damaged, Full}
@@ -54,12 +55,6 @@ module _ (ws : List ℕ) (k : Prefix) (room : ℕ) (ts us : List ℕ) (x : Surve
       (λ a b c. long-any ws (walkFrom ws k ts .out) (isTable-true (length ws) a .least)) in
       subst (Long ws) (ap (λ (v : Survey). v .out) e ∙ q) all
 
--- ---- planStoreOn: the plan y fits
-
-pub store-fits : (ws : List ℕ) (k : Prefix) (z : ℕ) (s : Walk) (e : Met) (y : Planned) (p : Plan) → 16 ≤ length ws
-    → y ≡ planStoreOn ws k z s e → y ≡ planned.Go p → Fitting ws p
-store-fits ws k z s e y p long d q = fitting-store ws k z s e p long (sym d ∙ q)
-
 -- ---- acceptedOf
 
 module _ (k : Prefix) (n : ℕ) (s : Walk) where
@@ -79,7 +74,18 @@ module _ (k : Prefix) (n : ℕ) (s : Walk) where
       at true = refl
       at false = refl
 
--- ---- storeOn, where the survey gives x
+-- ---- storeOn, where the survey gives x, and y is made and leaves the words `now`
+
+abbrev storedAs : Prefix → List ℕ → List ℕ → ℕ → Walk → List ℕ → Made → Edit Stored
+storedAs k bs ts n s now made.Done = record { answer = acceptedOf k n s; bytes = paste bs 0 ts n; words = now }
+storedAs k bs ts n s now made.Damaged = refused Damaged bs now
+storedAs k bs ts n s now made.Full = record { answer = Full n; bytes = paste bs 0 ts n; words = now }
+
+storedBy-made : (ws : List ℕ) (k : Prefix) (bs ts : List ℕ) (n : ℕ) (s : Walk) (p : Planned)
+    → storedBy ws k bs ts n s p ≡ storedAs k bs ts n s (leftBy ws p) (madeOf p)
+storedBy-made ws k bs ts n s (planned.Go p) = refl
+storedBy-made ws k bs ts n s planned.Damaged = refl
+storedBy-made ws k bs ts n s planned.Full = refl
 
 module _ (ws : List ℕ) (k : Prefix) (z : ℕ) (bs us : List ℕ) (x : Surveyed)
     (e : surveyOn ws k (length bs) (replicate 129 0) ≡ record { widths = us; out = x }) where
@@ -88,20 +94,21 @@ module _ (ws : List ℕ) (k : Prefix) (z : ℕ) (bs us : List ℕ) (x : Surveyed
   unfolding storeOn
   storeOn-survey y q = rw (e, q)
 
-  module _ (n : ℕ) (s : Walk) (m : Met) (q : x ≡ surveyed.Path n s m) (y : Planned) (f : y ≡ planStoreOn ws k z s m) where
-    storeOn-plan : storeOn ws k z bs ≡ storedBy ws k bs us n s y
-    storeOn-plan = storeOn-survey (surveyed.Path n s m) q ∙ ap (storedBy ws k bs us n s) (sym f)
+  module _ (n : ℕ) (s : Walk) (m : Met) (q : x ≡ surveyed.Path n s m) (y : Made) (now : List ℕ)
+      (f : Makes ws (planStoreOn ws k z s m) y now) where
+    storeOn-made : storeOn ws k z bs ≡ storedAs k bs us n s now y
+    storeOn-made = storeOn-survey (surveyed.Path n s m) q ∙ rw (f .answer, f .words) (storedBy-made ws k bs us n s (planStoreOn ws k z s m))
 
-    pub storeOn-damaged : y ≡ planned.Damaged → storeOn ws k z bs ≡ refused Damaged bs ws
-    storeOn-damaged g = storeOn-plan ∙ rw g
+    pub storeOn-damaged : y ≡ made.Damaged → storeOn ws k z bs ≡ refused Damaged bs now
+    storeOn-damaged g = rw g at storeOn-made
 
-    pub storeOn-full : (after : List ℕ) → y ≡ planned.Full → after ≡ paste bs 0 us n
-        → storeOn ws k z bs ≡ record { answer = Full n; bytes = after; words = ws }
-    storeOn-full after g h = storeOn-plan ∙ rw (g, h)
+    pub storeOn-full : (after : List ℕ) → y ≡ made.Full → after ≡ paste bs 0 us n
+        → storeOn ws k z bs ≡ record { answer = Full n; bytes = after; words = now }
+    storeOn-full after g h = rw h (rw g at storeOn-made)
 
-    pub storeOn-go : (p : Plan) (r : Stored) (after now : List ℕ) → y ≡ planned.Go p → r ≡ acceptedOf k n s → after ≡ paste bs 0 us n
-        → now ≡ applied ws p → storeOn ws k z bs ≡ record { answer = r; bytes = after; words = now }
-    storeOn-go p r after now g h i j = storeOn-plan ∙ rw (g, h, i, j)
+    pub storeOn-done : (r : Stored) (after : List ℕ) → y ≡ made.Done → r ≡ acceptedOf k n s → after ≡ paste bs 0 us n
+        → storeOn ws k z bs ≡ record { answer = r; bytes = after; words = now }
+    storeOn-done r after g h i = rw (h, i) (rw g at storeOn-made)
 
 -- ---- what any answer of storeOn shows
 

@@ -15,8 +15,8 @@ use Rattle.lookup.specs.declared.Walk.{Walk}
 use Rattle.lookup.specs.declared.Surveyed.{Surveyed}
 use Rattle.lookup.specs.declared.Surveyed.the-variants as surveyed
 use Rattle.plans.specs.Planning.{planStoreOn, planRemoveOn}
-use Rattle.plans.specs.declared.Planned.{Planned}
-use Rattle.plans.specs.declared.Planned.the-variants as planned
+use Rattle.plans.specs.Planned.{Planned}
+use Rattle.plans.specs.Planned as planned
 use Rattle.plans.specs.Limits.{ThreeRecords}
 use Rattle.plans.proofs.AppliedLaws.{three-refl, applied-three}
 use Rattle.edits.specs.Storing.{Edit, acceptedOf, storedBy, storedOf, storeOn}

@@ -1,7 +1,6 @@
 -- Fresh: what it makes of the lent memory, and its promise.
 -- Paper 01, "The lent table": "Making a fresh table writes the memory as needed and gives the empty set."
 --   nextOf l c         the link after l in a chain of c records
---   blankOf            eight words that are 0, for the header to start from
 --   chainedOn ws c n   the words with the records 1 to n made spare, of c
 --   freshOn ws         the words made a fresh table
 --   numberOf, valuesOf the paper's number of an answer, 0 where accepted, and its values
@@ -15,7 +14,6 @@ use lib.Dec.{ltb}
 use lib.ListN.{length}
 use Rattle.records.specs.Layout.{isTable, capacity, withRecord, withHeader}
 use Rattle.records.specs.Holds.{Holds}
-use Rattle.records.specs.declared.Record.{Record}
 use Rattle.plans.specs.Planning.{freedOf}
 use Rattle.edits.specs.declared.Freshened.{Freshened}
 use Rattle.edits.specs.declared.Freshened.the-variants.{Done, BadLength}
@@ -23,16 +21,14 @@ use Rattle.edits.specs.declared.Freshened.the-variants.{Done, BadLength}
 abbrev pub nextOf : ℕ → ℕ → ℕ
 nextOf l c = cond (ltb l c) (l + 1) 0
 
-unfoldable pub blankOf : Record
-blankOf = record { w0 = 0; w1 = 0; w2 = 0; w3 = 0; zone = 0; left = 0; right = 0; tag = 0 }
-
 unfoldable pub chainedOn : List ℕ → ℕ → ℕ → List ℕ
 chainedOn ws c zero = ws
 chainedOn ws c (suc n) = withRecord (chainedOn ws c n) (suc n) (freedOf (nextOf (suc n) c))
 
+-- (the header starts from a spare record's words, whose tag no walk passes)
 unfoldable pub freshOn : List ℕ → List ℕ
 freshOn ws =
-    withHeader (chainedOn (withRecord ws 0 blankOf) (capacity (length ws)) (capacity (length ws))) (record { root = 0; spare = 1 })
+    withHeader (chainedOn (withRecord ws 0 (freedOf 0)) (capacity (length ws)) (capacity (length ws))) (record { root = 0; spare = 1 })
 
 -- No. 1
 abbrev pub numberOf : Freshened → ℕ

@@ -22,8 +22,8 @@ use Rattle.lookup.specs.declared.Walk.{Walk}
 use Rattle.lookup.specs.declared.Surveyed.{Surveyed}
 use Rattle.lookup.specs.declared.Surveyed.the-variants as surveyed
 use Rattle.plans.specs.Planning.{applied, planRemoveOn}
-use Rattle.plans.specs.declared.Planned.{Planned}
-use Rattle.plans.specs.declared.Planned.the-variants as planned
+use Rattle.plans.specs.Planned.{Planned}
+use Rattle.plans.specs.Planned as planned
 use Rattle.edits.specs.Storing.{Edit, refused}
 use Rattle.edits.specs.declared.Removal.{Removal}
 use Rattle.edits.specs.declared.Removal.the-variants.{Removed, BadLength, BadPrefix, ShortOut, Damaged, Absent}

@@ -26,8 +26,8 @@ use Rattle.lookup.specs.declared.Walk.{Walk}
 use Rattle.lookup.specs.declared.Surveyed.{Surveyed}
 use Rattle.lookup.specs.declared.Surveyed.the-variants as surveyed
 use Rattle.plans.specs.Planning.{entryOf, applied, planStoreOn}
-use Rattle.plans.specs.declared.Planned.{Planned}
-use Rattle.plans.specs.declared.Planned.the-variants as planned
+use Rattle.plans.specs.Planned.{Planned}
+use Rattle.plans.specs.Planned as planned
 use Rattle.edits.specs.declared.Stored.{Stored}
 use Rattle.edits.specs.declared.Stored.the-variants.{Added, Replaced, BadLength, BadPrefix, ShortOut, Damaged, Full}
 

@@ -1,17 +1,16 @@
 // Changing a lent table: fresh, store and remove. No public call has a `requires`. A store and a
-// remove survey the key's path, plan by reading alone, and then write the plan; a refusal writes
-// nothing into the table.
+// remove survey the key's path, and then write; a refusal writes nothing into the table.
 use lookup::Surveyed;
 use lookup::Walk;
-use plans::Planned;
+use plans::Made;
 use prefix::Prefix;
 use records::Header;
 use records::Record;
-ghost use Prim.Native.Nat.{ℕ, _+_, _*_, _/_, _-_, _≤_, _<_};
+ghost use Prim.Native.Nat.{_+_, _*_, _≤_};
 ghost use mathlib.Core.Path.{_≡_};
 ghost use lib.ListN.{length};
 ghost use Rattle.plans.specs.Planning.{freedOf};
-ghost use Rattle.edits.specs.Fresh.{nextOf, blankOf, chainedOn, Fresh};
+ghost use Rattle.edits.specs.Fresh.{nextOf, chainedOn, Fresh};
 ghost use Rattle.edits.specs.Storing.{acceptedOf, Store};
 ghost use Rattle.edits.specs.Removing.{Remove};
 
@@ -22,7 +21,8 @@ pub enum Freshened {
     BadLength,
 }
 
-// Makes the lent memory an empty table: no node, and every record spare.
+// Makes the lent memory an empty table: no node, and every record spare. The header's other words are a
+// spare record's, whose tag ends a descent where a link is 0.
 pub fn fresh(table: &mut [u32]) -> Freshened
     ensures { λ r. ⌜ Fresh (now (table .entry)) r (now (table .exit)) ⌝ }
 {
@@ -30,7 +30,7 @@ pub fn fresh(table: &mut [u32]) -> Freshened
         return Freshened::BadLength;
     }
     let count = table.len() / records::RECORD - 1;
-    records::write_record(table, 0, blank());
+    records::write_record(table, 0, plans::freed(0));
     chain(table, count as u32);
     records::write_header(table, Header { root: 0, spare: 1 });
     Freshened::Done
@@ -56,22 +56,6 @@ fn spare(l: u32, c: u32) -> Record
         return plans::freed(l + 1);
     }
     plans::freed(0)
-}
-
-// Eight words that are 0.
-fn blank() -> Record
-    ensures { λ r. ⌜ r ≡ blankOf ⌝ }
-{
-    Record {
-        w0: 0,
-        w1: 0,
-        w2: 0,
-        w3: 0,
-        zone: 0,
-        left: 0,
-        right: 0,
-        tag: 0,
-    }
 }
 
 // ---- store
@@ -102,15 +86,14 @@ pub fn store(table: &mut [u32], k: Prefix, zone: u32, trail: &mut [u8]) -> Store
         Surveyed::ShortOut => Stored::ShortOut,
         Surveyed::Damaged => Stored::Damaged,
         Surveyed::Path(n, s, e) => {
-            let y = plans::plan_store(table, k, zone, s, e);
+            let y = plans::make_store(table, k, zone, s, e);
             match y {
-                Planned::Damaged => Stored::Damaged,
-                Planned::Full => {
+                Made::Damaged => Stored::Damaged,
+                Made::Full => {
                     lookup::copy_first(&widths, n, trail);
                     Stored::Full(n)
                 }
-                Planned::Go(p) => {
-                    plans::apply(table, p);
+                Made::Done => {
                     lookup::copy_first(&widths, n, trail);
                     accepted(k, n, s)
                 }
@@ -159,12 +142,11 @@ pub fn remove(table: &mut [u32], k: Prefix, trail: &mut [u8]) -> Removal
                 lookup::copy_first(&widths, n, trail);
                 return Removal::Absent(n);
             }
-            let y = plans::plan_remove(table, k, s);
+            let y = plans::make_remove(table, k, s);
             match y {
-                Planned::Damaged => Removal::Damaged,
-                Planned::Full => Removal::Damaged,
-                Planned::Go(p) => {
-                    plans::apply(table, p);
+                Made::Damaged => Removal::Damaged,
+                Made::Full => Removal::Damaged,
+                Made::Done => {
                     lookup::copy_first(&widths, n, trail);
                     Removal::Removed(n, s.zone)
                 }

@@ -16,9 +16,9 @@ use Rattle.records.proofs.LayoutLaws.{roomOf-true}
 use Rattle.records.proofs.GraftLaws.{labelsAbove, Framed, framed-set}
 use Rattle.lookup.proofs.FramesLaws.{Frames}
 use Rattle.plans.specs.Planning.{nowhereOf, lookOn, hangOn}
-use Rattle.plans.specs.declared.Write.{Write}
+use Rattle.plans.specs.Plans.{Write}
 use Rattle.plans.specs.declared.Look.the-variants as look
-use Rattle.plans.specs.declared.Hung.the-variants as hung
+use Rattle.plans.specs.Hung as hung
 
 -- the header's root, and the write, once l is hung in the open place of c
 abbrev pub rootWith : Context ℕ → ℕ → ℕ → ℕ

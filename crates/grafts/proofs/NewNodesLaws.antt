@@ -23,7 +23,7 @@ use Rattle.records.specs.Holds.{Bears, Linked, Chained, Holds}
 use Rattle.records.proofs.OnceLaws.{mem-times}
 use Rattle.records.proofs.GraftLaws.{sideOf-withSide-same, sideOf-withSide-other, bears-withSide, times-joined, linked-joined}
 use Rattle.plans.specs.Planning.{nowhereOf, nodeOf, applied}
-use Rattle.plans.specs.declared.Write.{Write}
+use Rattle.plans.specs.Plans.{Write}
 use Rattle.plans.proofs.AppliedLaws.{length-applied, recordAt-applied-two, recordAt-applied-three}
 use Rattle.plans.specs.Planning.{entryOf}
 use Rattle.grafts.proofs.PlanHoldsLaws.{hangPlan, aboveWrite, leafWrite, forkWrite}

@@ -21,7 +21,7 @@ use Rattle.records.proofs.OnceLaws.{times-append, mem-times, times-mem, once-bo
 use Rattle.records.proofs.HoldsLaws.{linked-ext, chained-ext}
 use Rattle.records.proofs.GraftLaws.{labelsAbove, times-plug, Framed, Opened, linked-plug}
 use Rattle.plans.specs.Planning.{nowhereOf, applied, Fitting}
-use Rattle.plans.specs.declared.Write.{Write}
+use Rattle.plans.specs.Plans.{Write}
 use Rattle.plans.proofs.AppliedLaws.{headerAt-applied, recordAt-applied-one, recordAt-applied-other}
 use Rattle.grafts.proofs.HangLaws.{hangWrite, Hanged, framed-hang}
 use Rattle.grafts.proofs.PlanHoldsLaws.{hangPlan}

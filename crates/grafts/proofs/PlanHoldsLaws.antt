@@ -25,9 +25,8 @@ use Rattle.lookup.specs.declared.Met.the-variants.{Matching, Mismatching}
 use Rattle.lookup.proofs.FramesLaws.{Frames}
 use Rattle.lookup.proofs.EndsLaws.{lowOf, StoodAt}
 use Rattle.plans.specs.Planning.{nowhereOf, nodeOf, spareOn, hereOn, aboveOn, forkOn, newOn, storeOf, planOf, hangOn, planStoreOn}
-use Rattle.plans.specs.declared.Write.{Write}
-use Rattle.plans.specs.declared.Plan.{Plan}
-use Rattle.plans.specs.declared.Planned.the-variants.{Go, Full}
+use Rattle.plans.specs.Plans.{Write, Plan}
+use Rattle.plans.specs.Planned.{Go, Full}
 use Rattle.plans.specs.declared.Spare.{Spare}
 use Rattle.plans.specs.declared.Spare.the-variants as spare
 use Rattle.grafts.proofs.HangLaws.{rootWith, hangWrite, lookOn-nothing, lookOn-room, hangOn-frames}

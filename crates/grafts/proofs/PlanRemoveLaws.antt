@@ -29,9 +29,8 @@ use Rattle.lookup.specs.declared.Walk.{Walk}
 use Rattle.lookup.proofs.EndsLaws.{Stood}
 use Rattle.lookup.proofs.FramesLaws.{Frames}
 use Rattle.plans.specs.Planning.{nodeOf, freedOf, nowhereOf, passOn, twinOn, aloneOn, outOn, planRemoveOn}
-use Rattle.plans.specs.declared.Write.{Write}
-use Rattle.plans.specs.declared.Plan.{Plan}
-use Rattle.plans.specs.declared.Planned.the-variants as planned
+use Rattle.plans.specs.Plans.{Write, Plan}
+use Rattle.plans.specs.Planned as planned
 use Rattle.grafts.proofs.HangLaws.{rootWith, hangWrite, lookOn-nothing, lookOn-room, hangOn-frames}
 
 -- ---- records by value

@@ -27,8 +27,8 @@ use Rattle.lookup.specs.declared.Walk.{Walk}
 use Rattle.lookup.proofs.EndsLaws.{Stood}
 use Rattle.lookup.proofs.FramesLaws.{Frames}
 use Rattle.plans.specs.Planning.{applied, planRemoveOn}
-use Rattle.plans.specs.declared.Plan.{Plan}
-use Rattle.plans.specs.declared.Planned.the-variants as planned
+use Rattle.plans.specs.Plans.{Plan}
+use Rattle.plans.specs.Planned as planned
 use Rattle.grafts.proofs.OpenedLaws.{timesIn, opened-bounds}
 use Rattle.grafts.proofs.PlanRemoveLaws.{emptyPlan, passPlan, twinPlan, Stays, planRemoveOn-both, planRemoveOn-low, planRemoveOn-high, planRemoveOn-stays, planRemoveOn-twin}
 use Rattle.grafts.proofs.RemoveWordsLaws.{holds-empty, holds-pass, holds-twin}

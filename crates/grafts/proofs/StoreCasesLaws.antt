@@ -33,9 +33,9 @@ use Rattle.lookup.specs.declared.Met.the-variants.{Matching, Mismatching}
 use Rattle.lookup.proofs.StepsLaws.{getD-next, width-bears, narrow-bears}
 use Rattle.lookup.proofs.EndsLaws.{Stood, StoodAt}
 use Rattle.plans.specs.Planning.{nowhereOf, nodeOf, applied, newOn, planStoreOn}
-use Rattle.plans.specs.declared.Plan.{Plan}
-use Rattle.plans.specs.declared.Planned.{Planned}
-use Rattle.plans.specs.declared.Planned.the-variants.{Go, Full}
+use Rattle.plans.specs.Plans.{Plan}
+use Rattle.plans.specs.Planned.{Planned}
+use Rattle.plans.specs.Planned.{Go, Full}
 use Rattle.plans.specs.Planning.{entryOf}
 use Rattle.grafts.proofs.PlanHoldsLaws.{herePlan, planStoreOn-here, hangPlan, aboveWrite, leafWrite, forkWrite, planStoreOn-new, newOn-tip, newOn-above, newOn-full, newOn-fork}
 use Rattle.grafts.proofs.OpenedLaws.{chained-as, opened-at, opened-bounds}

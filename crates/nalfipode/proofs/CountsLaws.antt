@@ -26,8 +26,8 @@ use Rattle.lookup.specs.declared.Matched.the-variants as matched
 use Rattle.lookup.proofs.WalkingLaws.{Short}
 use Rattle.lookup.proofs.SurveyLaws.{surveyOn-bounds}
 use Rattle.plans.specs.Planning.{planStoreOn, planRemoveOn}
-use Rattle.plans.specs.declared.Planned.{Planned}
-use Rattle.plans.specs.declared.Planned.the-variants as planned
+use Rattle.plans.specs.Planned.{Planned}
+use Rattle.plans.specs.Planned as planned
 use Rattle.edits.specs.Storing as storing
 use Rattle.edits.specs.Storing.{Edit, acceptedOf, storedBy, storedOf, storeOn, Store}
 use Rattle.edits.specs.Removing as removing

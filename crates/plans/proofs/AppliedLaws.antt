@@ -13,8 +13,7 @@ use Rattle.records.specs.Layout.{place, Inside, recordAt, headerAt, withRecord,
 use Rattle.records.proofs.LayoutLaws.{length-withRecord, recordAt-withRecord-same, recordAt-withRecord-other, headerAt-withRecord, length-withHeader, recordAt-withHeader, headerAt-withHeader}
 use Rattle.plans.specs.Planning.{wrote, applied, Fitting}
 use Rattle.plans.specs.Limits.{ThreeRecords}
-use Rattle.plans.specs.declared.Write.{Write}
-use Rattle.plans.specs.declared.Plan.{Plan}
+use Rattle.plans.specs.Plans.{Write, Plan}
 
 -- ---- wrote
 

@@ -1,4 +1,5 @@
+pub mod AppliedLaws
+pub mod MakingLaws
+pub mod PartsLaws
 pub mod PlanningLaws
 pub mod RemovalLaws
-pub mod FittingLaws
-pub mod AppliedLaws

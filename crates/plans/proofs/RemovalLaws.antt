@@ -1,98 +1,113 @@
--- The laws of a remove's plan over any words, one for each way out of its functions. No contract cites this
--- file.
+-- The laws of a remove over any words, one for each way out of its functions. No contract cites this file.
 -- Assumes nothing.
 use Prim.Native.Nat.{ℕ, _*_, _/_, _%_, _≤_, _<_}
 use mathlib.Core.Path.{_≡_}
-use mathlib.Core.Bool.{Bool, not}
+use mathlib.Core.Bool.{Bool, true, false, not}
 use mathlib.Core.List.{List}
 use borrow.Author.Tests.{le-leb, lt-leb, eq-eqb, ne-eqb}
 use Rattle.prefix.specs.declared.Prefix.{Prefix}
-use Rattle.records.specs.Layout.{headerAt, sideOf}
+use Rattle.records.specs.Layout.{headerAt, withRecord, sideOf}
 use Rattle.records.specs.declared.Record.{Record}
 use Rattle.records.specs.declared.Header.{Header}
 use Rattle.lookup.specs.declared.Walk.{Walk}
-use Rattle.plans.specs.Planning.{nodeOf, freedOf, nowhereOf, lookOn, bitAt, hangOn, planOf}
+use Rattle.plans.specs.Planning.{nodeOf, freedOf, lookOn, bitAt}
 use Rattle.plans.specs.Planning.{passOn, twinOn, aloneOn, outOn, planRemoveOn}
-use Rattle.plans.specs.declared.Write.{Write}
-use Rattle.plans.specs.declared.Planned.{Planned}
-use Rattle.plans.specs.declared.Planned.the-variants as planned
+use Rattle.plans.specs.Making.{Makes, Hangs, Taken}
 use Rattle.plans.specs.declared.Look.{Look}
 use Rattle.plans.specs.declared.Look.the-variants as look
-use Rattle.plans.specs.declared.Hung.{Hung}
+use Rattle.plans.specs.declared.Made.{Made}
+use Rattle.plans.specs.declared.Made.the-variants as made
+use Rattle.plans.proofs.MakingLaws.{makes-damaged, makes-single, hung-damaged, hung-one, hung-two}
 
--- ---- passOn and twinOn
+-- ---- passOn
 
-pub passOn-plan : (ws : List ℕ) (h : Header) (k : Prefix) (up at l : ℕ) (y : Record) (u : Hung) (w : Write) (z : Planned)
-    → y ≡ freedOf (h .spare) → u ≡ hangOn ws (h .root) k up l → w ≡ nowhereOf → z ≡ planOf u at (record { link = at; content = y }) w
-    → z ≡ passOn ws h k up at l
-unfolding passOn
-passOn-plan ws h k up at l y u w z d e f g = simp (g, f, e, d)
+module _ (ws : List ℕ) (k : Prefix) (up at l : ℕ) (b : Bool) (us : List ℕ) (h : Hangs ws k up l at b us) where
+  pub passOn-unhung : not b ≡ true → Makes ws (passOn ws (headerAt ws) k up at l) made.Damaged us
+  unfolding passOn
+  passOn-unhung t = hung-damaged ws us k up l at b h _ _ t
 
-module _ (ws : List ℕ) (h : Header) (k : Prefix) (s : Walk) (p : Record) where
-  pub twinOn-wide : k .width ≤ p .tag / 2 → planned.Damaged ≡ twinOn ws h k s p
+  pub passOn-done : (g : Header) (y : Record) (vs : List ℕ) → g ≡ headerAt ws → y ≡ freedOf (g .spare) → vs ≡ withRecord us at y
+      → Taken ws at → not b ≡ false → Makes ws (passOn ws (headerAt ws) k up at l) made.Done vs
+  unfolding passOn
+  passOn-done g y vs d e f t i = hung-one ws us k up l at b h at _ vs (rw (e, d) at f) t i
+
+-- ---- twinOn
+
+module _ (ws : List ℕ) (k : Prefix) (s : Walk) (p : Record) where
+  pub twinOn-wide : k .width ≤ p .tag / 2 → Makes ws (twinOn ws (headerAt ws) k s p) made.Damaged ws
   unfolding twinOn
-  twinOn-wide g = simp (le-leb _ _ g)
+  twinOn-wide g = rw (le-leb (k .width) (p .tag / 2) g) (makes-damaged ws)
 
-  pub twinOn-plan : (y v : Record) (b : Bool) (l : ℕ) (u : Hung) (z : Planned) → y ≡ freedOf (h .spare) → v ≡ freedOf (s .at)
-      → b ≡ bitAt k (p .tag / 2) → l ≡ sideOf p (not b) → u ≡ hangOn ws (h .root) k (s .over) l
-      → z ≡ planOf u (s .up) (record { link = s .at; content = y }) (record { link = s .up; content = v }) → p .tag / 2 < k .width
-      → z ≡ twinOn ws h k s p
-  unfolding twinOn
-  twinOn-plan y v b l u z d e f g i j t = simp (lt-leb _ _ t, j, i, g, f, d, e)
+  module _ (g : p .tag / 2 < k .width) (right : Bool) (l : ℕ) (d : right ≡ bitAt k (p .tag / 2)) (e : l ≡ sideOf p (not right)) (b : Bool) (us : List ℕ)
+      (h : Hangs ws k (s .over) l (s .up) b us) where
+    pub twinOn-unhung : not b ≡ true → Makes ws (twinOn ws (headerAt ws) k s p) made.Damaged us
+    unfolding twinOn
+    twinOn-unhung t = rw (lt-leb (k .width) (p .tag / 2) g, ← d, ← e) (hung-damaged ws us k (s .over) l (s .up) b h _ _ t)
 
--- ---- aloneOn
+    pub twinOn-done : (f : Header) (y v : Record) (vs xs : List ℕ) → f ≡ headerAt ws → y ≡ freedOf (f .spare) → v ≡ freedOf (s .at)
+        → vs ≡ withRecord us (s .at) y → xs ≡ withRecord vs (s .up) v → Taken ws (s .at) → Taken ws (s .up) → not b ≡ false
+        → Makes ws (twinOn ws (headerAt ws) k s p) made.Done xs
+    unfolding twinOn
+    twinOn-done f y v vs xs i j m n o t u z =
+        rw (lt-leb (k .width) (p .tag / 2) g, ← d, ← e)
+        (hung-two ws us k (s .over) l (s .up) b h (s .at) _ vs (rw (j, i) at n) t z (s .up) _ xs (rw m at o) u)
 
-module _ (ws : List ℕ) (h : Header) (k : Prefix) (s : Walk) (x : Look) (e : x ≡ lookOn ws (s .up)) where
-  pub aloneOn-top : (z : Planned) → x ≡ look.Nothing → z ≡ passOn ws h k (s .up) (s .at) 0 → z ≡ aloneOn ws h k s
+-- ---- aloneOn, where x is what the link above leads to
+
+module _ (ws : List ℕ) (k : Prefix) (s : Walk) (x : Look) (e : x ≡ lookOn ws (s .up)) where
+  pub aloneOn-outside : x ≡ look.Bad → Makes ws (aloneOn ws (headerAt ws) k s) made.Damaged ws
   unfolding aloneOn
-  aloneOn-top z q d = simp (← e, q, d)
+  aloneOn-outside q = rw (← e, q) (makes-damaged ws)
 
-  pub aloneOn-outside : x ≡ look.Bad → planned.Damaged ≡ aloneOn ws h k s
-  unfolding aloneOn
-  aloneOn-outside q = simp (← e, q)
+  module _ (r : Made) (us : List ℕ) where
+    pub aloneOn-top : x ≡ look.Nothing → Makes ws (passOn ws (headerAt ws) k (s .up) (s .at) 0) r us → Makes ws (aloneOn ws (headerAt ws) k s) r us
+    unfolding aloneOn
+    aloneOn-top q m = rw (← e, q) m
 
-  pub aloneOn-stored : (z : Planned) (p : Record) → x ≡ look.At p → z ≡ passOn ws h k (s .up) (s .at) 0 → p .tag % 2 ≡ 1
-      → z ≡ aloneOn ws h k s
-  unfolding aloneOn
-  aloneOn-stored z p q d g = simp (← e, q, eq-eqb _ _ g, d)
+    module _ (p : Record) (q : x ≡ look.At p) where
+      pub aloneOn-stored : Makes ws (passOn ws (headerAt ws) k (s .up) (s .at) 0) r us → p .tag % 2 ≡ 1 → Makes ws (aloneOn ws (headerAt ws) k s) r us
+      unfolding aloneOn
+      aloneOn-stored m g = rw (← e, q, eq-eqb (p .tag % 2) 1 g) m
 
-  pub aloneOn-branch : (z : Planned) (p : Record) → x ≡ look.At p → z ≡ twinOn ws h k s p → (p .tag % 2 ≡ 1 → ⊥) → z ≡ aloneOn ws h k s
-  unfolding aloneOn
-  aloneOn-branch z p q d g = simp (← e, q, ne-eqb _ _ g, d)
+      pub aloneOn-branch : Makes ws (twinOn ws (headerAt ws) k s p) r us → (p .tag % 2 ≡ 1 → ⊥) → Makes ws (aloneOn ws (headerAt ws) k s) r us
+      unfolding aloneOn
+      aloneOn-branch m g = rw (← e, q, ne-eqb (p .tag % 2) 1 g) m
 
 -- ---- outOn, by the sides that the node has
 
-module _ (ws : List ℕ) (h : Header) (k : Prefix) (s : Walk) (r : Record) (z : Planned) where
-  pub outOn-alone : z ≡ aloneOn ws h k s → r .left ≡ 0 → r .right ≡ 0 → z ≡ outOn ws h k s r
+module _ (ws : List ℕ) (k : Prefix) (s : Walk) (r : Record) where
+  module _ (x : Made) (us : List ℕ) where
+    pub outOn-alone : Makes ws (aloneOn ws (headerAt ws) k s) x us → r .left ≡ 0 → r .right ≡ 0 → Makes ws (outOn ws (headerAt ws) k s r) x us
+    unfolding outOn
+    outOn-alone m f g = rw (eq-eqb (r .left) 0 f, eq-eqb (r .right) 0 g) m
+
+    pub outOn-right : Makes ws (passOn ws (headerAt ws) k (s .up) (s .at) (r .right)) x us → r .left ≡ 0 → (r .right ≡ 0 → ⊥)
+        → Makes ws (outOn ws (headerAt ws) k s r) x us
+    unfolding outOn
+    outOn-right m f g = rw (eq-eqb (r .left) 0 f, ne-eqb (r .right) 0 g) m
+
+    pub outOn-left : Makes ws (passOn ws (headerAt ws) k (s .up) (s .at) (r .left)) x us → (r .left ≡ 0 → ⊥) → r .right ≡ 0
+        → Makes ws (outOn ws (headerAt ws) k s r) x us
+    unfolding outOn
+    outOn-left m f g = rw (ne-eqb (r .left) 0 f, eq-eqb (r .right) 0 g) m
+
+  pub outOn-both : (y : Record) (vs : List ℕ) → y ≡ nodeOf k (2 * k .width) 0 (r .left) (r .right) → vs ≡ withRecord ws (s .at) y
+      → Taken ws (s .at) → (r .left ≡ 0 → ⊥) → (r .right ≡ 0 → ⊥) → Makes ws (outOn ws (headerAt ws) k s r) made.Done vs
   unfolding outOn
-  outOn-alone e f g = simp (eq-eqb _ _ f, eq-eqb _ _ g, e)
+  outOn-both y vs d e t f g = rw (ne-eqb (r .left) 0 f, ne-eqb (r .right) 0 g, ← d) (makes-single ws vs (s .at) y e (t .some))
 
-  pub outOn-right : z ≡ passOn ws h k (s .up) (s .at) (r .right) → r .left ≡ 0 → (r .right ≡ 0 → ⊥) → z ≡ outOn ws h k s r
-  unfolding outOn
-  outOn-right e f g = simp (eq-eqb _ _ f, ne-eqb _ _ g, e)
-
-  pub outOn-left : z ≡ passOn ws h k (s .up) (s .at) (r .left) → (r .left ≡ 0 → ⊥) → r .right ≡ 0 → z ≡ outOn ws h k s r
-  unfolding outOn
-  outOn-left e f g = simp (ne-eqb _ _ f, eq-eqb _ _ g, e)
-
-pub outOn-both : (ws : List ℕ) (h : Header) (k : Prefix) (s : Walk) (r y : Record) (v w : Write)
-    → y ≡ nodeOf k (2 * k .width) 0 (r .left) (r .right) → v ≡ nowhereOf → w ≡ nowhereOf → (r .left ≡ 0 → ⊥) → (r .right ≡ 0 → ⊥)
-    → planned.Go (record { header = h; one = record { link = s .at; content = y }; two = v; three = w }) ≡ outOn ws h k s r
-unfolding outOn
-outOn-both ws h k s r y v w d e f g i = simp (ne-eqb _ _ g, ne-eqb _ _ i, d, e, f)
-
--- ---- planRemoveOn
+-- ---- planRemoveOn, where x is what the link of the key's node leads to
 
 module _ (ws : List ℕ) (k : Prefix) (s : Walk) (x : Look) (e : x ≡ lookOn ws (s .at)) where
-  pub planRemoveOn-nothing : x ≡ look.Nothing → planned.Damaged ≡ planRemoveOn ws k s
+  pub planRemoveOn-nothing : x ≡ look.Nothing → Makes ws (planRemoveOn ws k s) made.Damaged ws
   unfolding planRemoveOn
-  planRemoveOn-nothing q = simp (← e, q)
+  planRemoveOn-nothing q = rw (← e, q) (makes-damaged ws)
 
-  pub planRemoveOn-outside : x ≡ look.Bad → planned.Damaged ≡ planRemoveOn ws k s
+  pub planRemoveOn-outside : x ≡ look.Bad → Makes ws (planRemoveOn ws k s) made.Damaged ws
   unfolding planRemoveOn
-  planRemoveOn-outside q = simp (← e, q)
+  planRemoveOn-outside q = rw (← e, q) (makes-damaged ws)
 
-  pub planRemoveOn-node : (h : Header) (r : Record) (z : Planned) → h ≡ headerAt ws → x ≡ look.At r → z ≡ outOn ws h k s r
-      → z ≡ planRemoveOn ws k s
+  pub planRemoveOn-node : (r : Record) (z : Made) (us : List ℕ) → x ≡ look.At r → Makes ws (outOn ws (headerAt ws) k s r) z us
+      → Makes ws (planRemoveOn ws k s) z us
   unfolding planRemoveOn
-  planRemoveOn-node h r z f q d = simp (← e, q, ← f, d)
+  planRemoveOn-node r z us q m = rw (← e, q) m

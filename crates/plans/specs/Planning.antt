@@ -27,16 +27,15 @@ use Rattle.records.specs.declared.Header.{Header}
 use Rattle.lookup.specs.declared.Walk.{Walk}
 use Rattle.lookup.specs.declared.Met.{Met}
 use Rattle.lookup.specs.declared.Met.the-variants.{Matching, Mismatching}
-use Rattle.plans.specs.declared.Write.{Write}
-use Rattle.plans.specs.declared.Plan.{Plan}
-use Rattle.plans.specs.declared.Planned.{Planned}
-use Rattle.plans.specs.declared.Planned.the-variants as planned
+use Rattle.plans.specs.Plans.{Write, Plan}
+use Rattle.plans.specs.Planned.{Planned}
+use Rattle.plans.specs.Planned as planned
 use Rattle.plans.specs.declared.Look.{Look}
 use Rattle.plans.specs.declared.Look.the-variants as look
 use Rattle.plans.specs.declared.Spare.{Spare}
 use Rattle.plans.specs.declared.Spare.the-variants as spare
-use Rattle.plans.specs.declared.Hung.{Hung}
-use Rattle.plans.specs.declared.Hung.the-variants as hung
+use Rattle.plans.specs.Hung.{Hung}
+use Rattle.plans.specs.Hung as hung
 
 -- the entry that storing a number for k adds
 abbrev pub entryOf : Prefix → ℕ → Entry

@@ -1,18 +1,16 @@
-// What the plans of a store and of a remove are made of: what a link leads to, a link hung from a
-// node, and records by value.
-use crate::Hung;
+// What a store and a remove are made of: what a link leads to, a link hung from a node, and records by
+// value.
 use crate::Look;
-use crate::Plan;
-use crate::Planned;
 use crate::Spare;
-use crate::Write;
 use prefix::Prefix;
 use records::Header;
 use records::Record;
 ghost use Prim.Native.Nat.{_≤_};
 ghost use mathlib.Core.Path.{_≡_};
+ghost use lib.ListN.{length};
 ghost use Rattle.records.specs.Layout.{sideOf, withSide};
-ghost use Rattle.plans.specs.Planning.{hangOn, planOf, lookOn, spareOn, nowhereOf, nodeOf, freedOf};
+ghost use Rattle.plans.specs.Planning.{lookOn, spareOn, nodeOf, freedOf};
+ghost use Rattle.plans.specs.Making.{Hangs};
 
 // ---- reading
 
@@ -48,56 +46,39 @@ pub(crate) fn spare_at(table: &[u32], l: u32) -> Spare
 
 // ---- hanging a link
 
-// The link l, hung from the node `at` on the side that k goes on by, or at the top where that is 0.
-pub(crate) fn hang(table: &[u32], root: u32, k: Prefix, at: u32, l: u32) -> Hung
-    requires { ⌜ k .width ≤ 128 ⌝ }
-    ensures { λ r. ⌜ r ≡ hangOn (now (table .entry)) root k at l ⌝ }
+// Hangs the link l from the node `at`, on the side that k goes on by, or at the top where that is 0; and
+// makes `spare` the first spare record. False, with nothing written, where no table has such a node.
+pub(crate) fn hang(table: &mut [u32], k: Prefix, at: u32, l: u32, spare: u32) -> bool
+    requires { ⌜ (16 ≤ length (now table)) × (k .width ≤ 128) ⌝ }
+    ensures { λ r. ⌜ Hangs (now (table .entry)) k at l spare r (now (table .exit)) ⌝ }
 {
+    let h = records::read_header(table);
     let x = look_at(table, at);
     match x {
-        Look::Nothing => Hung::On(l, nowhere()),
-        Look::Bad => Hung::Bad,
+        Look::Nothing => {
+            records::write_header(table, Header { root: l, spare });
+            true
+        }
+        Look::Bad => false,
         Look::At(r) => {
             let w = r.tag / 2;
             if k.width <= w {
-                return Hung::Bad;
+                return false;
             }
-            Hung::On(
-                root,
-                Write {
-                    link: at,
-                    content: with_side(r, prefix::bit(k, w), l),
+            records::write_header(
+                table,
+                Header {
+                    root: h.root,
+                    spare,
                 },
-            )
+            );
+            records::write_side(table, at, prefix::bit(k, w), l);
+            true
         }
     }
 }
 
-// The whole plan, once it is known what changes above.
-pub(crate) fn plan_of(x: Hung, spare: u32, two: Write, three: Write) -> Planned
-    ensures { λ r. ⌜ r ≡ planOf x spare two three ⌝ }
-{
-    match x {
-        Hung::Bad => Planned::Damaged,
-        Hung::On(root, one) => Planned::Go(Plan {
-            header: Header { root, spare },
-            one,
-            two,
-            three,
-        }),
-    }
-}
-
 // ---- records by value
-
-pub(crate) fn nowhere() -> Write
-    ensures { λ r. ⌜ r ≡ nowhereOf ⌝ }
-{
-    Write {
-        link: 0,
-        content: freed(0),
-    }
-}
 
 pub(crate) fn node_of(k: Prefix, tag: u32, zone: u32, left: u32, right: u32) -> Record
     ensures { λ r. ⌜ r ≡ nodeOf k tag zone left right ⌝ }

@@ -37,7 +37,7 @@ returns-2 c =
     let at-header = c .before .before in
     let at-chain = at-header .before .before .before .before in
     let at-record = at-chain .before .before .before .before in
-    fresh-done _ _ (at-record .before .before .before .before .is-table .ensures) _ _ _ _ (search needs) (at-record .before .blank .ensures)
+    fresh-done _ _ (at-record .before .before .before .before .is-table .ensures) _ _ _ _ (search needs) (at-record .before .freed .ensures)
     (at-record .write-record .ensures) (at-chain .chain .ensures) (at-header .write-header .ensures)
 
 pub fresh-spec : {M : Type 1} → statement M

@@ -1,11 +1,11 @@
--- `edits::remove` meets its contract: each arm answers what the definition makes of the survey and of the
--- plan, and only the arm of a plan writes the table. The plan fits, since it was made of these words.
+-- `edits::remove` meets its contract: each arm answers what the definition makes of the survey and of the plan,
+-- and the words are those that the plan leaves.
 -- Assumes nothing.
 use native.Mathlib.Omega.{arith}
 use borrow.Author.Needs.{needs}
 use Rattle.lookup.proofs.SurveyLaws.{surveyOn-bounds}
 use Rattle.edits.proofs.StoringLaws.{surveyOn-long}
-use Rattle.edits.proofs.RemovingLaws.{remove-fits, remove-promise, removeOn-survey, removeOn-absent, removeOn-damaged, removeOn-full, removeOn-go}
+use Rattle.edits.proofs.RemovingLaws.{remove-promise, removeOn-survey, removeOn-absent, removeOn-damaged, removeOn-full, removeOn-done}
 use Rattle.edits.proofs.remove.Statement.{statement}
 use Rattle.edits.proofs.remove.Tie as tie
 
@@ -27,23 +27,16 @@ returns c =
     remove-promise _ _ _ _ _ _
     (removeOn-absent _ _ _ _ _ (at-x .before .before .survey .ensures) _ _ _ (at-x .x .given .1) _ (search needs) (c .before .before .copy-first .ensures))
 
-plan-remove-requires : tie.Need-plan-remove-requires
-plan-remove-requires c κs =
+make-remove-requires : tie.Need-make-remove-requires
+make-remove-requires c κs =
     let at-x = c .before .before .before .before .before in (
       surveyOn-long _ _ _ _ _ _ _ _ _ (at-x .before .before .survey .ensures) (at-x .x .given .1),
       surveyOn-bounds _ _ _ _ _ _ _ _ _ (at-x .before .before .survey .ensures) (at-x .x .given .1) .narrow,
     )
 
-apply-requires : tie.Need-apply-requires
-apply-requires c κs =
-    let at-plan = c .before .before .before .before in
-    let at-x = at-plan .before .before .before .before .before .before in
-    remove-fits _ _ _ _ _ (surveyOn-long _ _ _ _ _ _ _ _ _ (at-x .before .before .survey .ensures) (at-x .x .given .1)) (at-plan .plan-remove .ensures)
-    (c .before .before .y .given .1)
-
 copy-first-requires-2 : tie.Need-copy-first-requires-2
 copy-first-requires-2 c κs =
-    let at-x = c .before .before .before .before .before .before .before .before .before .before .before .before .before .before .before in
+    let at-x = c .before .before .before .before .before .before .before .before .before .before .before .before in
     let b = surveyOn-bounds _ _ _ _ _ _ _ _ _ (at-x .before .before .survey .ensures) (at-x .x .given .1) in
     (b .few, search needs, b .long)
 
@@ -61,28 +54,25 @@ returns-5 c = remove-promise _ _ _ _ _ _ (removeOn-survey _ _ _ _ _ (c .before .
 
 returns-6 : tie.Need-returns-6
 returns-6 c =
-    let at-plan = c .before .before in
-    let at-x = at-plan .before .before .before .before .before .before in
+    let at-x = c .before .before .before .before .before .before .before .before .before .before in
     remove-promise _ _ _ _ _ _
-    (removeOn-damaged _ _ _ _ _ (at-x .before .before .survey .ensures) _ _ _ (at-x .x .given .1) _ (at-plan .plan-remove .ensures)
-    (search needs) (c .enum-told5 .given .1))
+    (removeOn-damaged _ _ _ _ _ (at-x .before .before .survey .ensures) _ _ _ (at-x .x .given .1) _ _ (c .before .before .before .before .make-remove .ensures) (search needs)
+    (c .enum-told5 .given .1))
 
 returns-7 : tie.Need-returns-7
 returns-7 c =
-    let at-plan = c .before .before in
-    let at-x = at-plan .before .before .before .before .before .before in
+    let at-x = c .before .before .before .before .before .before .before .before .before .before in
     remove-promise _ _ _ _ _ _
-    (removeOn-full _ _ _ _ _ (at-x .before .before .survey .ensures) _ _ _ (at-x .x .given .1) _ (at-plan .plan-remove .ensures)
-    (search needs) (c .enum-told6 .given .1))
+    (removeOn-full _ _ _ _ _ (at-x .before .before .survey .ensures) _ _ _ (at-x .x .given .1) _ _ (c .before .before .before .before .make-remove .ensures) (search needs)
+    (c .enum-told6 .given .1))
 
 returns-8 : tie.Need-returns-8
 returns-8 c =
-    let at-apply = c .before .before .before .before .before .before .before in
-    let at-plan = at-apply .before .before .before .before .before in
-    let at-x = at-plan .before .before .before .before .before .before in
+    let at-made = c .before .before .before .before .before .before .before .before .before in
+    let at-x = at-made .before .before .before .before .before .before in
     remove-promise _ _ _ _ _ _
-    (removeOn-go _ _ _ _ _ (at-x .before .before .survey .ensures) _ _ _ (at-x .x .given .1) _ (at-plan .plan-remove .ensures)
-    (search needs) _ _ _ (at-apply .before .before .before .y .given .1) (c .before .before .copy-first2 .ensures) (at-apply .apply .ensures))
+    (removeOn-done _ _ _ _ _ (at-x .before .before .survey .ensures) _ _ _ (at-x .x .given .1) _ _ (at-made .make-remove .ensures) (search needs) _
+    (c .before .before .before .before .before .enum-told7 .given .1) (c .before .before .copy-first2 .ensures))
 
 pub remove-spec : {M : Type 1} → statement M
 remove-spec =
@@ -99,11 +89,10 @@ remove-spec =
     (λ c. search needs)
     (λ c. search needs)
     returns
-    plan-remove-requires
+    make-remove-requires
     (λ c. search needs)
     (λ c. search needs)
     (λ c. search needs)
-    apply-requires
     copy-first-requires-2
     (λ c. search needs)
     returns-2

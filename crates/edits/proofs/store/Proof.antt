@@ -1,14 +1,14 @@
--- `edits::store` meets its contract: each arm answers what the definition makes of the survey and of the
--- plan, and only the arm of a plan writes the table. The plan fits, since it was made of these words.
+-- `edits::store` meets its contract: each arm answers what the definition makes of the survey and of the plan,
+-- and the words are those that the plan leaves.
 -- Assumes nothing.
 use borrow.Author.Needs.{needs}
 use Rattle.lookup.proofs.SurveyLaws.{surveyOn-bounds}
-use Rattle.edits.proofs.StoringLaws.{surveyOn-long, store-fits, store-promise, storeOn-survey, storeOn-damaged, storeOn-full, storeOn-go}
+use Rattle.edits.proofs.StoringLaws.{surveyOn-long, store-promise, storeOn-survey, storeOn-damaged, storeOn-full, storeOn-done}
 use Rattle.edits.proofs.store.Statement.{statement}
 use Rattle.edits.proofs.store.Tie as tie
 
-plan-store-requires : tie.Need-plan-store-requires
-plan-store-requires c κs =
+make-store-requires : tie.Need-make-store-requires
+make-store-requires c κs =
     let at-x = c .before .before in (
       surveyOn-long _ _ _ _ _ _ _ _ _ (at-x .before .before .survey .ensures) (at-x .x .given .1),
       surveyOn-bounds _ _ _ _ _ _ _ _ _ (at-x .before .before .survey .ensures) (at-x .x .given .1) .narrow,
@@ -16,26 +16,19 @@ plan-store-requires c κs =
 
 copy-first-requires : tie.Need-copy-first-requires
 copy-first-requires c κs =
-    let at-x = c .before .before .before .before .before .before .before in
+    let at-x = c .before .before .before .before .before .before .before .before .before in
     let b = surveyOn-bounds _ _ _ _ _ _ _ _ _ (at-x .before .before .survey .ensures) (at-x .x .given .1) in
     (b .few, search needs, b .long)
 
-apply-requires : tie.Need-apply-requires
-apply-requires c κs =
-    let at-plan = c .before .before .before .before in
-    let at-x = at-plan .before .before .before in
-    store-fits _ _ _ _ _ _ _ (surveyOn-long _ _ _ _ _ _ _ _ _ (at-x .before .before .survey .ensures) (at-x .x .given .1)) (at-plan .plan-store .ensures)
-    (c .before .before .y .given .1)
-
 copy-first-requires-2 : tie.Need-copy-first-requires-2
 copy-first-requires-2 c κs =
-    let at-x = c .before .before .before .before .before .before .before .before .before .before .before .before in
+    let at-x = c .before .before .before .before .before .before .before .before .before in
     let b = surveyOn-bounds _ _ _ _ _ _ _ _ _ (at-x .before .before .survey .ensures) (at-x .x .given .1) in
     (b .few, search needs, b .long)
 
 accepted-requires : tie.Need-accepted-requires
 accepted-requires c κs =
-    let at-x = c .before .before .before .before .before .before .before .before .before .before .before .before .before .before .before in
+    let at-x = c .before .before .before .before .before .before .before .before .before .before .before .before in
     surveyOn-bounds _ _ _ _ _ _ _ _ _ (at-x .before .before .survey .ensures) (at-x .x .given .1) .narrow
 
 returns : tie.Need-returns
@@ -52,29 +45,25 @@ returns-4 c = store-promise _ _ _ _ _ _ _ (storeOn-survey _ _ _ _ _ _ (c .before
 
 returns-5 : tie.Need-returns-5
 returns-5 c =
-    let at-plan = c .before .before in
-    let at-x = at-plan .before .before .before in
+    let at-x = c .before .before .before .before .before .before .before in
     store-promise _ _ _ _ _ _ _
-    (storeOn-damaged _ _ _ _ _ _ (at-x .before .before .survey .ensures) _ _ _ (at-x .x .given .1) _ (at-plan .plan-store .ensures)
-    (c .enum-told5 .given .1))
+    (storeOn-damaged _ _ _ _ _ _ (at-x .before .before .survey .ensures) _ _ _ (at-x .x .given .1) _ _ (c .before .before .before .before .make-store .ensures) (c .enum-told5 .given .1))
 
 returns-6 : tie.Need-returns-6
 returns-6 c =
-    let at-full = c .before .before .before .before .before in
-    let at-plan = at-full .before .before in
-    let at-x = at-plan .before .before .before in
+    let at-made = c .before .before .before .before .before .before .before .before .before in
+    let at-x = at-made .before .before .before in
     store-promise _ _ _ _ _ _ _
-    (storeOn-full _ _ _ _ _ _ (at-x .before .before .survey .ensures) _ _ _ (at-x .x .given .1) _ (at-plan .plan-store .ensures) _
-    (at-full .enum-told6 .given .1) (c .before .before .copy-first .ensures))
+    (storeOn-full _ _ _ _ _ _ (at-x .before .before .survey .ensures) _ _ _ (at-x .x .given .1) _ _ (at-made .make-store .ensures) _
+    (c .before .before .before .before .before .enum-told6 .given .1) (c .before .before .copy-first .ensures))
 
 returns-7 : tie.Need-returns-7
 returns-7 c =
-    let at-apply = c .before .before .before .before .before .before .before .before in
-    let at-plan = at-apply .before .before .before .before .before in
-    let at-x = at-plan .before .before .before in
+    let at-made = c .before .before .before .before .before .before .before .before .before .before in
+    let at-x = at-made .before .before .before in
     store-promise _ _ _ _ _ _ _
-    (storeOn-go _ _ _ _ _ _ (at-x .before .before .survey .ensures) _ _ _ (at-x .x .given .1) _ (at-plan .plan-store .ensures) _ _ _ _
-    (at-apply .before .before .before .y .given .1) (c .accepted .ensures) (c .before .before .before .copy-first2 .ensures) (at-apply .apply .ensures))
+    (storeOn-done _ _ _ _ _ _ (at-x .before .before .survey .ensures) _ _ _ (at-x .x .given .1) _ _ (at-made .make-store .ensures) _ _
+    (c .before .before .before .before .before .before .enum-told7 .given .1) (c .accepted .ensures) (c .before .before .before .copy-first2 .ensures))
 
 pub store-spec : {M : Type 1} → statement M
 store-spec =
@@ -86,12 +75,11 @@ store-spec =
     (λ c. search needs)
     (λ c. search needs)
     (λ c. search needs)
-    plan-store-requires
+    make-store-requires
     (λ c. search needs)
     (λ c. search needs)
     copy-first-requires
     (λ c. search needs)
-    apply-requires
     copy-first-requires-2
     accepted-requires
     (λ c. search needs)

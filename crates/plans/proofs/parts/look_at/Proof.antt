@@ -2,7 +2,7 @@
 -- Assumes nothing.
 use borrow.Author.Needs.{needs}
 use Rattle.records.proofs.LayoutLaws.{inside-tested}
-use Rattle.plans.proofs.PlanningLaws.{lookOn-nothing, lookOn-outside, lookOn-inside}
+use Rattle.plans.proofs.PartsLaws.{lookOn-nothing, lookOn-outside, lookOn-inside}
 use Rattle.plans.proofs.parts.look_at.Statement.{statement}
 use Rattle.plans.proofs.parts.look_at.Tie as tie
 

@@ -1,7 +1,7 @@
 -- `plans::parts::spare_at` meets its contract: what the link leads to, and its tag.
 -- Assumes nothing.
 use borrow.Author.Needs.{needs}
-use Rattle.plans.proofs.PlanningLaws.{spareOn-out, spareOn-outside, spareOn-free, spareOn-node}
+use Rattle.plans.proofs.PartsLaws.{spareOn-out, spareOn-outside, spareOn-free, spareOn-node}
 use Rattle.plans.proofs.parts.spare_at.Statement.{statement}
 use Rattle.plans.proofs.parts.spare_at.Tie as tie
 
