@@ -2,37 +2,47 @@
 -- answer.
 -- No contract cites this file.
 -- Assumes nothing.
-use Prim.Native.Nat.{ℕ, suc, _+_}
+use Prim.Native.Nat.{ℕ, suc, _+_, _-_}
+use native.Mathlib.Omega.{arith}
 use mathlib.Core.Path.{_≡_, refl, sym, ap, subst, _∙_}
 use mathlib.Core.Bool.{Bool, true, false, cond}
 use mathlib.Core.List.{List, [], _∷_}
 use lib.Dec.{eqb}
 use lib.ListN.{length, replicate}
-use lib.Seq.{paste}
 use borrow.Author.Tests.{eq-eqb, ne-eqb}
 use Rattle.prefix.specs.declared.Prefix.{Prefix}
 use Rattle.lookup.specs.Walking.{surveyOn, firstRefusal, leavesAll, Outcome, leaveOn}
 use Rattle.lookup.specs.Fetching.{foundOf, fetchedOf, fetchOn, numberOf, valuesOf, Fetch}
 use Rattle.lookup.specs.declared.Walk.{Walk}
-use Rattle.lookup.specs.declared.Met.{Met}
+use Rattle.lookup.specs.Reading.{readOf, readOn}
+use Rattle.lookup.specs.declared.Reading.{Reading}
+use Rattle.lookup.specs.declared.Reading.the-variants as reading
 use Rattle.lookup.specs.declared.Surveyed.{Surveyed}
 use Rattle.lookup.specs.declared.Surveyed.the-variants as surveyed
 use Rattle.lookup.specs.declared.Fetched.{Fetched}
-use Rattle.lookup.specs.declared.Fetched.the-variants.{Found, Absent}
+use Rattle.lookup.specs.declared.Fetched.the-variants.{Found, BadLength, BadPrefix, ShortOut, Damaged, Absent}
 use Rattle.lookup.proofs.SurveyLaws.{refusalOf, surveyOn-refusal}
 use Rattle.lookup.proofs.HoldsLaws.{fetchOn-holds}
 
 -- ---- foundOf
 
+-- by what the walk has noted, for any walk that has
+module _ (k : Prefix) (n b z : ℕ) where
+  absent : (s : Walk) → (s .best ≡ k .width + 1 → ⊥) → Absent n ≡ foundOf k n s
+  unfolding foundOf
+  absent s h = simp (ne-eqb _ _ h)
+
+  pub foundOf-none : b ≡ 0 → (s : Walk) → s .best ≡ b → s .zone ≡ z → Absent n ≡ foundOf k n s
+  foundOf-none h s e f = absent s (λ g. omega arith)
+
+  pub foundOf-stored : (b ≡ 0 → ⊥) → b - 1 ≡ k .width → (s : Walk) → s .best ≡ b → s .zone ≡ z → Found n z ≡ foundOf k n s
+  unfolding foundOf
+  foundOf-stored h g s e f = rw (eq-eqb (s .best) (k .width + 1) (omega arith), f)
+
+  pub foundOf-other : (b ≡ 0 → ⊥) → (b - 1 ≡ k .width → ⊥) → (s : Walk) → s .best ≡ b → s .zone ≡ z → Absent n ≡ foundOf k n s
+  foundOf-other h g s e f = absent s (λ q. g (omega arith))
+
 module _ (k : Prefix) (n : ℕ) (s : Walk) where
-  pub foundOf-stored : s .best ≡ k .width + 1 → Found n (s .zone) ≡ foundOf k n s
-  unfolding foundOf
-  foundOf-stored h = simp (eq-eqb _ _ h)
-
-  pub foundOf-absent : (s .best ≡ k .width + 1 → ⊥) → Absent n ≡ foundOf k n s
-  unfolding foundOf
-  foundOf-absent h = simp (ne-eqb _ _ h)
-
   -- both answers write the trail
   foundOf-writes : leavesAll (numberOf (foundOf k n s)) ≡ false
   unfolding foundOf leavesAll
@@ -61,16 +71,29 @@ fetchedOf-kept k bs us surveyed.Damaged h = (refl, refl)
 
 -- ---- fetchOn
 
-module _ (ws : List ℕ) (k : Prefix) (bs us : List ℕ) (x : Surveyed)
-    (e : surveyOn ws k (length bs) (replicate 129 0) ≡ record { widths = us; out = x }) where
-  -- for a refusal y this is the whole answer, and the trail as it was
-  pub fetchOn-survey : (y : Surveyed) → x ≡ y → fetchOn ws k bs ≡ record { answer = fetchedOf k y; bytes = leaveOn bs us y }
-  unfolding fetchOn
-  fetchOn-survey y q = rw (e, q)
+-- what fetch makes of a reading: the answer of every walk that has noted this, or the same refusal
+abbrev Gives : Prefix → Reading → Fetched → Type 0
+Gives k (reading.Path n b z) q = (s : Walk) → s .best ≡ b → s .zone ≡ z → q ≡ foundOf k n s
+Gives k reading.BadLength q = q ≡ BadLength
+Gives k reading.BadPrefix q = q ≡ BadPrefix
+Gives k reading.ShortOut q = q ≡ ShortOut
+Gives k reading.Damaged q = q ≡ Damaged
 
-  pub fetchOn-path : (n : ℕ) (s : Walk) (m : Met) (r : Fetched) (after : List ℕ) → x ≡ surveyed.Path n s m → r ≡ foundOf k n s → after ≡ paste bs 0 us n
-      → fetchOn ws k bs ≡ record { answer = r; bytes = after }
-  fetchOn-path n s m r after q p g = fetchOn-survey (surveyed.Path n s m) q ∙ rw (p, g)
+fetchedOf-gives : (k : Prefix) (x : Surveyed) (q : Fetched) → Gives k (readOf x) q → fetchedOf k x ≡ q
+fetchedOf-gives k (surveyed.Path n s e) q g = sym (g s refl refl)
+fetchedOf-gives k surveyed.BadLength q g = sym g
+fetchedOf-gives k surveyed.BadPrefix q g = sym g
+fetchedOf-gives k surveyed.ShortOut q g = sym g
+fetchedOf-gives k surveyed.Damaged q g = sym g
+
+pub fetchOn-read : (ws : List ℕ) (k : Prefix) (bs : List ℕ) (r : Reading) (after : List ℕ) → readOn ws k bs ≡ record { answer = r; bytes = after }
+    → (y : Reading) → r ≡ y → (q : Fetched) → Gives k y q → fetchOn ws k bs ≡ record { answer = q; bytes = after }
+unfolding fetchOn readOn
+fetchOn-read ws k bs r after e y f q g =
+    let v = surveyOn ws k (length bs) (replicate 129 0) in
+    let read : readOf (v .out) ≡ y = ap (λ (o : Outcome Reading). o .answer) e ∙ f in
+    let given = fetchedOf-gives k (v .out) q (subst (λ (x : Reading). Gives k x q) (sym read) g) in
+    λ i. record { answer = given i; bytes = e i .bytes }
 
 fetchOn-number : (ws : List ℕ) (k : Prefix) (bs : List ℕ) (n : ℕ) → firstRefusal ws k (length bs) ≡ suc n → numberOf (fetchOn ws k bs .answer) ≡ suc n
 unfolding fetchOn

@@ -8,5 +8,6 @@ pub mod HoldsLaws
 pub mod RestsLaws
 pub mod EndsLaws
 pub mod FramesLaws
+pub mod ReadingLaws
 pub mod FetchingLaws
 pub mod MatchingLaws

@@ -8,31 +8,34 @@ use mathlib.Core.Bool.{Bool, true, false, cond}
 use mathlib.Core.List.{List, [], _∷_}
 use lib.Dec.{eqb}
 use lib.ListN.{length, replicate}
-use lib.Seq.{paste}
 use borrow.Author.Tests.{eq-eqb, ne-eqb}
 use Rattle.prefix.specs.declared.Prefix.{Prefix}
 use Rattle.lookup.specs.Walking.{surveyOn, firstRefusal, leavesAll, Outcome, leaveOn}
 use Rattle.lookup.specs.Matching.{matchOf, matchedOf, longestOn, numberOf, valuesOf, LongestMatch}
 use Rattle.lookup.specs.declared.Walk.{Walk}
-use Rattle.lookup.specs.declared.Met.{Met}
+use Rattle.lookup.specs.Reading.{readOf, readOn}
+use Rattle.lookup.specs.declared.Reading.{Reading}
+use Rattle.lookup.specs.declared.Reading.the-variants as reading
 use Rattle.lookup.specs.declared.Surveyed.{Surveyed}
 use Rattle.lookup.specs.declared.Surveyed.the-variants as surveyed
 use Rattle.lookup.specs.declared.Matched.{Matched}
-use Rattle.lookup.specs.declared.Matched.the-variants.{Match, NoMatch}
+use Rattle.lookup.specs.declared.Matched.the-variants.{Match, NoMatch, BadLength, BadPrefix, ShortOut, Damaged}
 use Rattle.lookup.proofs.SurveyLaws.{refusalOf, surveyOn-refusal}
 use Rattle.lookup.proofs.HoldsLaws.{longestOn-holds}
 
 -- ---- matchOf
 
+-- by what the walk has noted, for any walk that has
+module _ (n b z : ℕ) where
+  pub matchOf-none : b ≡ 0 → (s : Walk) → s .best ≡ b → s .zone ≡ z → NoMatch n ≡ matchOf n s
+  unfolding matchOf
+  matchOf-none h s e f = rw (eq-eqb (s .best) 0 (e ∙ h))
+
+  pub matchOf-some : (b ≡ 0 → ⊥) → (s : Walk) → s .best ≡ b → s .zone ≡ z → Match n (b - 1) z ≡ matchOf n s
+  unfolding matchOf
+  matchOf-some h s e f = rw (ne-eqb (s .best) 0 (λ g. h (sym e ∙ g)), e, f)
+
 module _ (n : ℕ) (s : Walk) where
-  pub matchOf-none : s .best ≡ 0 → NoMatch n ≡ matchOf n s
-  unfolding matchOf
-  matchOf-none h = simp (eq-eqb _ _ h)
-
-  pub matchOf-some : (s .best ≡ 0 → ⊥) → Match n (s .best - 1) (s .zone) ≡ matchOf n s
-  unfolding matchOf
-  matchOf-some h = simp (ne-eqb _ _ h)
-
   -- both answers write the trail
   matchOf-writes : leavesAll (numberOf (matchOf n s)) ≡ false
   unfolding matchOf leavesAll
@@ -61,16 +64,29 @@ matchedOf-kept bs us surveyed.Damaged h = (refl, refl)
 
 -- ---- longestOn
 
-module _ (ws : List ℕ) (k : Prefix) (bs us : List ℕ) (x : Surveyed)
-    (e : surveyOn ws k (length bs) (replicate 129 0) ≡ record { widths = us; out = x }) where
-  -- for a refusal y this is the whole answer, and the trail as it was
-  pub longestOn-survey : (y : Surveyed) → x ≡ y → longestOn ws k bs ≡ record { answer = matchedOf y; bytes = leaveOn bs us y }
-  unfolding longestOn
-  longestOn-survey y q = rw (e, q)
+-- what longest match makes of a reading: the answer of every walk that has noted this, or the same refusal
+abbrev Gives : Reading → Matched → Type 0
+Gives (reading.Path n b z) q = (s : Walk) → s .best ≡ b → s .zone ≡ z → q ≡ matchOf n s
+Gives reading.BadLength q = q ≡ BadLength
+Gives reading.BadPrefix q = q ≡ BadPrefix
+Gives reading.ShortOut q = q ≡ ShortOut
+Gives reading.Damaged q = q ≡ Damaged
 
-  pub longestOn-path : (n : ℕ) (s : Walk) (m : Met) (r : Matched) (after : List ℕ) → x ≡ surveyed.Path n s m → r ≡ matchOf n s → after ≡ paste bs 0 us n
-      → longestOn ws k bs ≡ record { answer = r; bytes = after }
-  longestOn-path n s m r after q p g = longestOn-survey (surveyed.Path n s m) q ∙ rw (p, g)
+matchedOf-gives : (x : Surveyed) (q : Matched) → Gives (readOf x) q → matchedOf x ≡ q
+matchedOf-gives (surveyed.Path n s e) q g = sym (g s refl refl)
+matchedOf-gives surveyed.BadLength q g = sym g
+matchedOf-gives surveyed.BadPrefix q g = sym g
+matchedOf-gives surveyed.ShortOut q g = sym g
+matchedOf-gives surveyed.Damaged q g = sym g
+
+pub longestOn-read : (ws : List ℕ) (k : Prefix) (bs : List ℕ) (r : Reading) (after : List ℕ) → readOn ws k bs ≡ record { answer = r; bytes = after }
+    → (y : Reading) → r ≡ y → (q : Matched) → Gives y q → longestOn ws k bs ≡ record { answer = q; bytes = after }
+unfolding longestOn readOn
+longestOn-read ws k bs r after e y f q g =
+    let v = surveyOn ws k (length bs) (replicate 129 0) in
+    let read : readOf (v .out) ≡ y = ap (λ (o : Outcome Reading). o .answer) e ∙ f in
+    let given = matchedOf-gives (v .out) q (subst (λ (x : Reading). Gives x q) (sym read) g) in
+    λ i. record { answer = given i; bytes = e i .bytes }
 
 longestOn-number : (ws : List ℕ) (k : Prefix) (bs : List ℕ) (n : ℕ) → firstRefusal ws k (length bs) ≡ suc n → numberOf (longestOn ws k bs .answer) ≡ suc n
 unfolding longestOn

@@ -20,7 +20,7 @@ use Rattle.records.specs.Layout.{isTable, place, recordAt, headerAt, keyOf}
 use Rattle.records.specs.declared.Record.{Record}
 use Rattle.records.proofs.LayoutLaws.{isTable-true, room-roomOf}
 use Rattle.lookup.specs.Walking.{sharedOn, agreeOn, sideOn, downOn, stepOn, startOn, walkFrom}
-use Rattle.lookup.specs.Descending.{Held, Passed, pastOn, nextIn, bestIn, zoneIn, walkIn, Sound, Descended}
+use Rattle.lookup.specs.Descending.{Held, Passed, topOf, pastOn, nextIn, bestIn, zoneIn, walkIn, Sound, Descended, Reached}
 use Rattle.lookup.specs.declared.Step.the-variants.{Down}
 use Rattle.lookup.specs.declared.descent.Descent.{Descent}
 use Rattle.lookup.proofs.StepsLaws.{stepOn-node, seenOn-down}
@@ -54,7 +54,11 @@ sharedOn-agree : (r : Record) (k : Prefix) → sharedOn r k ≡ min (min (r .tag
 unfolding sharedOn agreeOn stringOf keyOf
 sharedOn-agree r k = length-lcp-take (r .tag / 2) (k .width) (wordBits (keyOf r)) (wordBits k)
 
-module _ (ws : List ℕ) (k : Prefix) (d : Descent) (tag link : ℕ) (t : isTable (length ws) ≡ true) (s : Sound ws d)
+-- the last nodes once a descent passes the one where it stands
+abbrev pushedOn : ℕ → Descent → ℕ
+pushedOn last d = last * 1048576 % 2 ^ 64 + d .next
+
+module _ (ws : List ℕ) (k : Prefix) (last : ℕ) (d : Descent) (tag link : ℕ) (t : isTable (length ws) ≡ true) (s : Sound ws d)
     (p : Passed ws k (d .next) (d .low) tag link) where
   abbrev here : Record
   here = recordAt ws (d .next / 8)
@@ -84,7 +88,7 @@ module _ (ws : List ℕ) (k : Prefix) (d : Descent) (tag link : ℕ) (t : isTabl
   on : nextIn k d ≡ d .next / 8
   on = sym (nextIn-on k d (λ e. omega (arith, p .grown, p .wider)))
 
-  down-past : downOn here k (walkIn ws k d) ≡ walkIn ws k (pastOn d tag link)
+  down-past : downOn here k (walkIn ws k last d) ≡ walkIn ws k (pushedOn last d) (pastOn d tag link)
   unfolding downOn walkIn pastOn bestIn zoneIn
   down-past =
       let f = isTable-true (length ws) t in
@@ -98,41 +102,42 @@ module _ (ws : List ℕ) (k : Prefix) (d : Descent) (tag link : ℕ) (t : isTabl
       let same : odd (here .tag) ≡ odd tag = ap odd (sym (p .tag-is)) in
       rw same (λ i.
       record {
-        at = (on ∙ ap (λ (x : ℕ). x / 8) (pushed-first (d .last) (d .next) place-most)) i;
-        up = ap (λ (x : ℕ). x / 8) (pushed-second (d .last) (d .next) place-most) i;
-        over = ap (λ (x : ℕ). x / 8) (pushed-third (d .last) (d .next) place-most) i;
+        at = (on ∙ ap (λ (x : ℕ). x / 8) (pushed-first last (d .next) place-most)) i;
+        up = ap (λ (x : ℕ). x / 8) (pushed-second last (d .next) place-most) i;
+        over = ap (λ (x : ℕ). x / 8) (pushed-third last (d .next) place-most) i;
         next = passed-next i;
         low = low i;
         best = best i;
         zone = zone i;
       })
 
-  pub passed-step : Down (tag / 2) (walkIn ws k (pastOn d tag link)) ≡ stepOn ws k (walkIn ws k d)
+  pub passed-step : Down (tag / 2) (walkIn ws k (pushedOn last d) (pastOn d tag link)) ≡ stepOn ws k (walkIn ws k last d)
   unfolding walkIn
   passed-step =
       let room = room-roomOf (length ws) (d .next / 8) (omega (arith, p .some-record, s .next-whole)) (omega (arith, p .room, s .next-whole)) in
       let e : tag / 2 ≡ here .tag / 2 = rw (p .tag-is) in
       let grown : d .low ≤ sharedOn here k = omega (arith, passed-shared, p .grown) in
-      sym (stepOn-node ws k (walkIn ws k d) (d .next / 8) on room
-      ∙ seenOn-down here k (walkIn ws k d) (omega (arith, p .early)) grown (omega (arith, passed-shared))
+      sym (stepOn-node ws k (walkIn ws k last d) (d .next / 8) on room
+      ∙ seenOn-down here k (walkIn ws k last d) (omega (arith, p .early)) grown (omega (arith, passed-shared))
       ∙ rw (down-past, e))
 
 -- ---- the loop of `descend`
 
-pub descended-start : (ws : List ℕ) (k : Prefix) (ts : List ℕ) (root : ℕ) → root ≡ headerAt ws .root → root < 2 ^ 32
-    → Descended ws k ts (record { next = 8 * root; held = 0; low = 0; last = 0; n = 0 }) ts
-unfolding walkIn nextIn bestIn zoneIn walkFrom startOn
-descended-start ws k ts root e h =
+pub descended-start : (ws : List ℕ) (k : Prefix) (ts : List ℕ) (root : ℕ) (d : Descent) → root ≡ headerAt ws .root → root < 2 ^ 32 → d ≡ topOf root
+    → Descended ws k ts 0 d ts
+unfolding walkIn nextIn bestIn zoneIn walkFrom startOn topOf
+descended-start ws k ts root d e h g =
     let whole : 8 * root / 8 ≡ root = omega arith in
-    record {
+    subst (λ (x : Descent). Descended ws k ts 0 x ts) (sym g)
+    (record {
       sound = record { next-whole = omega arith; next-link = omega arith; held-at = record { whole = refl; room = λ ne. absurd (ne refl) } };
       few = omega arith;
       early = omega arith;
       same = rw (ne-eqb 0 (k .width + 1) (λ q. omega arith), whole, e);
-    }
+    })
 
-module _ (ws : List ℕ) (k : Prefix) (ts after : List ℕ) (d : Descent) (tag link : ℕ) (t : isTable (length ws) ≡ true)
-    (p : Passed ws k (d .next) (d .low) tag link) (h : Descended ws k ts d after) where
+module _ (ws : List ℕ) (k : Prefix) (ts after : List ℕ) (last : ℕ) (d : Descent) (tag link : ℕ) (t : isTable (length ws) ≡ true)
+    (p : Passed ws k (d .next) (d .low) tag link) (h : Descended ws k ts last d after) where
   held-past : Held ws (cond (odd tag) (d .next) (d .held))
   held-past = at (odd tag)
     where
@@ -140,7 +145,7 @@ module _ (ws : List ℕ) (k : Prefix) (ts after : List ℕ) (d : Descent) (tag l
       at true = record { whole = h .sound .next-whole; room = λ ne. p .room }
       at false = h .sound .held-at
 
-  descended-on : pastOn d tag link .next / 8 < 2 ^ 32 → Descended ws k ts (pastOn d tag link) (set after (d .n) (tag / 2))
+  descended-on : pastOn d tag link .next / 8 < 2 ^ 32 → Descended ws k ts (pushedOn last d) (pastOn d tag link) (set after (d .n) (tag / 2))
   unfolding pastOn
   descended-on f =
       record {
@@ -148,11 +153,19 @@ module _ (ws : List ℕ) (k : Prefix) (ts after : List ℕ) (d : Descent) (tag l
         few = omega (arith, h .few, p .grown);
         early = omega (arith, p .early);
         same =
-            walkOn-down ws k (d .n) after (walkIn ws k d) (walkFrom ws k ts) (stepOn ws k (walkIn ws k d)) refl (h .same) (omega (arith, h .few, h .early))
-            (tag / 2) (walkIn ws k (pastOn d tag link)) (sym (passed-step ws k d tag link t (h .sound) p));
+            walkOn-down ws k (d .n) after (walkIn ws k last d) (walkFrom ws k ts) (stepOn ws k (walkIn ws k last d)) refl (h .same)
+            (omega (arith, h .few, h .early)) (tag / 2) (walkIn ws k (pushedOn last d) (pastOn d tag link))
+            (sym (passed-step ws k last d tag link t (h .sound) p));
       }
 
-  pub descended-past : (r : Descent) → (r ≡ pastOn d tag link) × (r .next / 8 < 2 ^ 32) → Descended ws k ts r (set after (d .n) (tag / 2))
+  pub descended-past : (r : Descent) → (r ≡ pastOn d tag link) × (r .next / 8 < 2 ^ 32)
+      → Descended ws k ts (last * 1048576 % 2 ^ 64 + d .next) r (set after (d .n) (tag / 2))
   descended-past r e =
-      subst (λ (x : Descent). Descended ws k ts x (set after (d .n) (tag / 2))) (sym (e .0))
+      subst (λ (x : Descent). Descended ws k ts (pushedOn last d) x (set after (d .n) (tag / 2))) (sym (e .0))
       (descended-on (subst (λ (x : Descent). x .next / 8 < 2 ^ 32) (e .0) (e .1)))
+
+pub reached-past : (ws : List ℕ) (k : Prefix) (ts after : List ℕ) (d : Descent) (tag link : ℕ) → isTable (length ws) ≡ true
+    → Passed ws k (d .next) (d .low) tag link → Reached ws k ts d after → (r : Descent) → (r ≡ pastOn d tag link) × (r .next / 8 < 2 ^ 32)
+    → Reached ws k ts r (set after (d .n) (tag / 2))
+reached-past ws k ts after d tag link t p h r e =
+    record { last = pushedOn (h .last) d; descended = descended-past ws k ts after (h .last) d tag link t p (h .descended) r e }

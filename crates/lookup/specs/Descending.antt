@@ -4,18 +4,20 @@
 --   Held ws at        a record of ws starts at the word `at`, or `at` is 0
 --   Passed            what is known of a node that is passed
 --   Turned            the contract of `turn_at`
---   pastOn            the descent past a node
+--   endsOn ws         the header's last word is no tag of a node that is passed
+--   topOf, pastOn     the descent at the top, and past a node
 --   bestIn, zoneIn    the longest stored prefix so far, by the word at which its record starts
 --   nextIn k d        the next link, none where the key's own node has been passed
---   walkIn ws k d     the walk that a descent stands for
+--   walkIn ws k l d   the walk that a descent stands for, where the last nodes are l
 --   Sound ws d        what a descent names are records' first words, or none
---   Descended         the contract of `descend`: the walk from the top comes to what the walk from there does
+--   Descended         the contract of `trace`: the walk from the top comes to what the walk from there does
+--   Reached           the contract of `descend`
 -- Assumes nothing.
-use Prim.Native.Nat.{ℕ, _+_, _-_, _*_, _/_, _%_, _^_, _≤_, _<_}
+use Prim.Native.Nat.{ℕ, _+_, _-_, _/_, _%_, _^_, _≤_, _<_}
 use mathlib.Core.Path.{_≡_}
-use mathlib.Core.Bool.{true, cond}
+use mathlib.Core.Bool.{Bool, true, cond}
 use mathlib.Core.List.{List}
-use lib.Dec.{eqb, ltb}
+use lib.Dec.{eqb, leb, ltb}
 use lib.ListN.{length}
 use Rattle.bits.specs.Numbers.{odd}
 use Rattle.prefix.specs.declared.Prefix.{Prefix}
@@ -44,19 +46,19 @@ pub record Passed (ws : List ℕ) (k : Prefix) (at low tag link : ℕ) : Type 0 
   pub agrees : tag / 2 ≤ agreeOn (recordAt ws (at / 8)) k
   pub goes : link ≡ cond (ltb (tag / 2) (agreeOn (recordAt ws (at / 8)) k)) (recordAt ws (at / 8) .left) (recordAt ws (at / 8) .right)
 
+-- (the header stands where a record 0 would)
+unfoldable pub endsOn : List ℕ → Bool
+endsOn ws = leb 128 (recordAt ws 0 .tag)
+
 abbrev pub Turned : List ℕ → Prefix → ℕ → ℕ → Turn → Type 0
 Turned ws k at low (On tag link) = Passed ws k at low tag link
 Turned ws k at low Off = Unit {0}
 
+unfoldable pub topOf : ℕ → Descent
+topOf root = record { next = place root; held = 0; low = 0; n = 0 }
+
 unfoldable pub pastOn : Descent → ℕ → ℕ → Descent
-pastOn d tag link =
-    record {
-      next = place link;
-      held = cond (odd tag) (d .next) (d .held);
-      low = tag / 2 + 1;
-      last = d .last * 1048576 % 2 ^ 64 + d .next;
-      n = d .n + 1;
-    }
+pastOn d tag link = record { next = place link; held = cond (odd tag) (d .next) (d .held); low = tag / 2 + 1; n = d .n + 1 }
 
 unfoldable pub bestIn : List ℕ → ℕ → ℕ
 bestIn ws at = cond (eqb at 0) 0 (recordAt ws (at / 8) .tag / 2 + 1)
@@ -67,12 +69,12 @@ zoneIn ws at = cond (eqb at 0) 0 (recordAt ws (at / 8) .zone)
 unfoldable pub nextIn : Prefix → Descent → ℕ
 nextIn k d = cond (eqb (d .low) (k .width + 1)) 0 (d .next / 8)
 
-unfoldable pub walkIn : List ℕ → Prefix → Descent → Walk
-walkIn ws k d =
+unfoldable pub walkIn : List ℕ → Prefix → ℕ → Descent → Walk
+walkIn ws k last d =
     record {
-      at = d .last % 1048576 / 8;
-      up = d .last / 1048576 % 1048576 / 8;
-      over = d .last / 1099511627776 % 1048576 / 8;
+      at = last % 1048576 / 8;
+      up = last / 1048576 % 1048576 / 8;
+      over = last / 1099511627776 % 1048576 / 8;
       next = nextIn k d;
       low = d .low;
       best = bestIn ws (d .held);
@@ -84,8 +86,13 @@ pub record Sound (ws : List ℕ) (d : Descent) : Type 0 where
   pub next-link : d .next / 8 < 2 ^ 32
   pub held-at : Held ws (d .held)
 
-pub record Descended (ws : List ℕ) (k : Prefix) (ts : List ℕ) (d : Descent) (after : List ℕ) : Type 0 where
+pub record Descended (ws : List ℕ) (k : Prefix) (ts : List ℕ) (last : ℕ) (d : Descent) (after : List ℕ) : Type 0 where
   pub sound : Sound ws d
   pub few : d .n ≤ d .low
   pub early : d .low ≤ 64
-  pub same : walkOn (130 - d .n) ws k (d .n) after (walkIn ws k d) ≡ walkFrom ws k ts
+  pub same : walkOn (130 - d .n) ws k (d .n) after (walkIn ws k last d) ≡ walkFrom ws k ts
+
+-- a read carries no last nodes: some are those of the walk
+pub record Reached (ws : List ℕ) (k : Prefix) (ts : List ℕ) (d : Descent) (after : List ℕ) : Type 0 where
+  pub last : ℕ
+  pub descended : Descended ws k ts last d after

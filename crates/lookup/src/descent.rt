@@ -9,18 +9,22 @@ ghost use mathlib.Core.Path.{_≡_};
 ghost use mathlib.Core.Bool.{true, cond};
 ghost use lib.ListN.{length};
 ghost use Rattle.records.specs.Layout.{isTable, headerAt};
-ghost use Rattle.lookup.specs.Descending.{Whole, Held, Turned, pastOn, nextIn, bestIn, zoneIn, walkIn, Sound, Descended};
+ghost use Rattle.lookup.specs.Descending.{Whole, Held, Turned, endsOn, topOf, pastOn, nextIn, bestIn, zoneIn, walkIn, Sound, Descended, Reached};
 
 // Where a descent stands, in as few registers as will do. A record goes by the word at which it starts,
 // which is less than 2^20. There is the next one, that of the last stored node (0 for none), how many
-// bits a node must share, those of the last three nodes, 20 bits each and the last one lowest, and how
-// many nodes there were.
+// bits a node must share, and how many nodes there were.
 pub struct Descent {
     pub next: usize,
     pub held: usize,
     pub low: u32,
-    pub last: u64,
     pub n: usize,
+}
+
+// The same for an edit, with the last three nodes, 20 bits each and the last one lowest.
+pub struct Traced {
+    pub to: Descent,
+    pub last: u64,
 }
 
 // What a record is to a descent: a node to pass, with its tag and the link by which the key goes on; or
@@ -33,15 +37,12 @@ pub enum Turn {
 // Descends from the table's root, and writes the widths of the nodes that it passes.
 pub fn descend(table: &[u32], k: Prefix, root: u32, widths: &mut [u8; 129]) -> Descent
     requires { ⌜ (isTable (length (now table)) ≡ true) × (k .width ≤ 128) × (root ≡ headerAt (now table) .root) ⌝ }
-    ensures { λ d. ⌜ Descended (now (table .entry)) k (now (widths .entry)) d (now (widths .exit)) ⌝ }
+    ensures { λ d. ⌜ Reached (now (table .entry)) k (now (widths .entry)) d (now (widths .exit)) ⌝ }
 {
-    let mut d = Descent {
-        next: records::RECORD * (root as usize),
-        held: 0,
-        low: 0,
-        last: 0,
-        n: 0,
-    };
+    let mut d = top(root);
+    if !ends(table) {
+        return d;
+    }
     loop {
         let x = turn_at(table, k, d.next, d.low);
         match x {
@@ -57,15 +58,59 @@ pub fn descend(table: &[u32], k: Prefix, root: u32, widths: &mut [u8; 129]) -> D
     }
 }
 
+// The same, with the last nodes.
+pub fn trace(table: &[u32], k: Prefix, root: u32, widths: &mut [u8; 129]) -> Traced
+    requires { ⌜ (isTable (length (now table)) ≡ true) × (k .width ≤ 128) × (root ≡ headerAt (now table) .root) ⌝ }
+    ensures { λ t. ⌜ Descended (now (table .entry)) k (now (widths .entry)) (t .last) (t .to) (now (widths .exit)) ⌝ }
+{
+    let mut d = top(root);
+    let mut last: u64 = 0;
+    if !ends(table) {
+        return Traced { to: d, last };
+    }
+    loop {
+        let x = turn_at(table, k, d.next, d.low);
+        match x {
+            Turn::Off => {
+                return Traced { to: d, last };
+            }
+            Turn::On(tag, link) => {
+                let n = d.n;
+                widths[n] = (tag / 2) as u8;
+                last = (last << 20) + (d.next as u64);
+                d = past(d, tag, link);
+            }
+        }
+    }
+}
+
+fn top(root: u32) -> Descent
+    ensures { λ d. ⌜ d ≡ topOf root ⌝ }
+{
+    Descent {
+        next: records::RECORD * (root as usize),
+        held: 0,
+        low: 0,
+        n: 0,
+    }
+}
+
+// The header's last word is no tag of a node to pass, so that a descent ends at a link that is 0 with no
+// test of its own. So it is in a fresh table, and no call writes there; on other words all is left to
+// `step_at`.
+fn ends(table: &[u32]) -> bool
+    requires { ⌜ 16 ≤ length (now table) ⌝ }
+    ensures { λ r. ⌜ r ≡ endsOn (now (table .entry)) ⌝ }
+{
+    128 <= records::tag_at(table, 0)
+}
+
 // Whether the record at the word `at` is a node to pass. Both links are read, so that the next record's
 // place waits for a choice and not for another read.
 fn turn_at(table: &[u32], k: Prefix, at: usize, low: u32) -> Turn
-    requires { ⌜ (isTable (length (now table)) ≡ true) × Whole at × (k .width ≤ 128) ⌝ }
+    requires { ⌜ (isTable (length (now table)) ≡ true) × Whole at × (k .width ≤ 128) × (endsOn (now table) ≡ true) ⌝ }
     ensures { λ x. ⌜ Turned (now (table .entry)) k at low x ⌝ }
 {
-    if at == 0 {
-        return Turn::Off;
-    }
     if table.len() <= at {
         return Turn::Off;
     }
@@ -83,7 +128,7 @@ fn turn_at(table: &[u32], k: Prefix, at: usize, low: u32) -> Turn
     if 1 < x {
         return Turn::Off;
     }
-    Turn::On(tag, either(x == 0, left, right))
+    Turn::On(tag, either(x == 1, right, left))
 }
 
 // A width, but no more than 64.
@@ -101,15 +146,13 @@ fn either(first: bool, x: u32, y: u32) -> u32
 
 // The descent past the node where it stands, by the link.
 fn past(d: Descent, tag: u32, link: u32) -> Descent
-    requires { ⌜ (d .n < 129) × (d .next < 524288) ⌝ }
+    requires { ⌜ d .n < 129 ⌝ }
     ensures { λ r. ⌜ (r ≡ pastOn d tag link) × (r .next / 8 < 2 ^ 32) ⌝ }
 {
-    let at = d.next;
     Descent {
         next: records::RECORD * (link as usize),
-        held: held_of(tag % 2 == 1, at, d.held),
+        held: held_of(tag % 2 == 1, d.next, d.held),
         low: tag / 2 + 1,
-        last: (d.last << 20) + (at as u64),
         n: d.n + 1,
     }
 }
@@ -122,15 +165,15 @@ fn held_of(stored: bool, at: usize, before: usize) -> usize
 
 // ---- what a descent stands for
 
-// The walk that goes on from where a descent stopped.
-pub fn walk_of(table: &[u32], k: Prefix, d: Descent) -> Walk
+// The walk that goes on from where a descent stopped, with the last nodes.
+pub fn walk_of(table: &[u32], k: Prefix, d: Descent, last: u64) -> Walk
     requires { ⌜ Sound (now table) d × (k .width ≤ 128) ⌝ }
-    ensures { λ s. ⌜ s ≡ walkIn (now (table .entry)) k d ⌝ }
+    ensures { λ s. ⌜ s ≡ walkIn (now (table .entry)) k last d ⌝ }
 {
     Walk {
-        at: link_of(d.last),
-        up: link_of(d.last >> 20),
-        over: link_of(d.last >> 40),
+        at: link_of(last),
+        up: link_of(last >> 20),
+        over: link_of(last >> 40),
         next: next_of(k, d),
         low: d.low,
         best: best_at(table, d.held),

@@ -7,8 +7,10 @@ ghost use mathlib.Core.Path.{_≡_};
 ghost use lib.ListN.{length};
 ghost use lib.Seq.{paste};
 ghost use Rattle.lookup.specs.Walking.{surveyOn};
+ghost use Rattle.lookup.specs.Reading.{readOn, nodesOf};
 ghost use Rattle.lookup.specs.Fetching.{foundOf, Fetch};
 ghost use Rattle.lookup.specs.Matching.{matchOf, LongestMatch};
+ghost use Rattle.lookup.specs.declared.Walk.{Walk};
 
 mod descent; // the upper part of a walk, in few instructions
 mod steps; // the walk, step by step
@@ -33,26 +35,24 @@ pub enum Fetched {
 pub fn fetch(table: &[u32], k: Prefix, trail: &mut [u8]) -> Fetched
     ensures { λ r. ⌜ Fetch (now (table .entry)) k (now (trail .entry)) r (now (trail .exit)) ⌝ }
 {
-    let mut widths = [0u8; TRAIL];
-    let x = survey(table, k, trail.len(), &mut widths);
+    let x = read(table, k, trail);
     match x {
-        Surveyed::BadLength => Fetched::BadLength,
-        Surveyed::BadPrefix => Fetched::BadPrefix,
-        Surveyed::ShortOut => Fetched::ShortOut,
-        Surveyed::Damaged => Fetched::Damaged,
-        Surveyed::Path(n, s, _) => {
-            copy_first(&widths, n, trail);
-            found_at(k, n, s)
-        }
+        Reading::BadLength => Fetched::BadLength,
+        Reading::BadPrefix => Fetched::BadPrefix,
+        Reading::ShortOut => Fetched::ShortOut,
+        Reading::Damaged => Fetched::Damaged,
+        Reading::Path(n, best, zone) => found_at(k, n, best, zone),
     }
 }
 
-fn found_at(k: Prefix, n: usize, s: Walk) -> Fetched
-    requires { ⌜ k .width ≤ 128 ⌝ }
-    ensures { λ r. ⌜ r ≡ foundOf k n s ⌝ }
+fn found_at(k: Prefix, n: usize, best: u32, zone: u32) -> Fetched
+    ensures { λ r. ⌜ ((s : Walk) → s .best ≡ best → s .zone ≡ zone → r ≡ foundOf k n s) ⌝ }
 {
-    if s.best == k.width + 1 {
-        return Fetched::Found(n, s.zone);
+    if best == 0 {
+        return Fetched::Absent(n);
+    }
+    if best - 1 == k.width {
+        return Fetched::Found(n, zone);
     }
     Fetched::Absent(n)
 }
@@ -75,27 +75,68 @@ pub enum Matched {
 pub fn longest_match(table: &[u32], k: Prefix, trail: &mut [u8]) -> Matched
     ensures { λ r. ⌜ LongestMatch (now (table .entry)) k (now (trail .entry)) r (now (trail .exit)) ⌝ }
 {
-    let mut widths = [0u8; TRAIL];
-    let x = survey(table, k, trail.len(), &mut widths);
+    let x = read(table, k, trail);
     match x {
-        Surveyed::BadLength => Matched::BadLength,
-        Surveyed::BadPrefix => Matched::BadPrefix,
-        Surveyed::ShortOut => Matched::ShortOut,
-        Surveyed::Damaged => Matched::Damaged,
-        Surveyed::Path(n, s, _) => {
-            copy_first(&widths, n, trail);
-            match_at(n, s)
-        }
+        Reading::BadLength => Matched::BadLength,
+        Reading::BadPrefix => Matched::BadPrefix,
+        Reading::ShortOut => Matched::ShortOut,
+        Reading::Damaged => Matched::Damaged,
+        Reading::Path(n, best, zone) => match_at(n, best, zone),
     }
 }
 
-fn match_at(n: usize, s: Walk) -> Matched
-    ensures { λ r. ⌜ r ≡ matchOf n s ⌝ }
+fn match_at(n: usize, best: u32, zone: u32) -> Matched
+    ensures { λ r. ⌜ ((s : Walk) → s .best ≡ best → s .zone ≡ zone → r ≡ matchOf n s) ⌝ }
 {
-    if s.best == 0 {
+    if best == 0 {
         return Matched::NoMatch(n);
     }
-    Matched::Match(n, s.best - 1, s.zone)
+    Matched::Match(n, best - 1, zone)
+}
+
+// ---- what both read
+
+// What comes of reading a key's path: how many nodes it has, and the longest stored prefix, as its width
+// plus 1 (0 for none) and its zone number; or a refusal.
+pub enum Reading {
+    Path(usize, u32, u32),
+    BadLength,
+    BadPrefix,
+    ShortOut,
+    Damaged,
+}
+
+// The refusals of a read in their order, then its walk, and then the trail. The widths go to a local array
+// first, since a Damaged call leaves the trail alone.
+fn read(table: &[u32], k: Prefix, trail: &mut [u8]) -> Reading
+    ensures { λ r. ⌜ readOn (now (table .entry)) k (now (trail .entry)) ≡ record { answer = r; bytes = now (trail .exit) } ⌝ }
+{
+    if !records::is_table(table.len()) {
+        return Reading::BadLength;
+    }
+    if !prefix::valid(k) {
+        return Reading::BadPrefix;
+    }
+    if trail.len() < TRAIL {
+        return Reading::ShortOut;
+    }
+    let mut widths = [0u8; TRAIL];
+    let x = steps::read_path(table, k, &mut widths);
+    copy_first(&widths, nodes_of(x), trail);
+    x
+}
+
+// How many nodes a reading has widths of.
+fn nodes_of(x: Reading) -> usize
+    ensures { λ r. ⌜ r ≡ nodesOf x ⌝ }
+{
+    match x {
+        Reading::Path(n, _, _) => n,
+        Reading::BadLength => 0,
+        Reading::BadPrefix => 0,
+        Reading::ShortOut => 0,
+        Reading::Damaged => 0,
+    }
 }
 
 // ---- the walk
@@ -139,8 +180,8 @@ pub enum Surveyed {
     Damaged,
 }
 
-// The refusals of a keyed call in their order, and then its walk. `room` is the length of the lent
-// trail; the widths go to a local array, since a Damaged call leaves the trail alone.
+// The refusals of an edit in their order, and then its walk. `room` is the length of the lent trail; the
+// widths go to a local array, since a Damaged call leaves the trail alone.
 pub fn survey(table: &[u32], k: Prefix, room: usize, widths: &mut [u8; 129]) -> Surveyed
     ensures { λ r. ⌜ surveyOn (now (table .entry)) k room (now (widths .entry)) ≡ record { widths = now (widths .exit); out = r } ⌝ }
 {

@@ -1,5 +1,6 @@
 // The path walk on any words: the upper nodes by a descent, the others step by step.
 use crate::Met;
+use crate::Reading;
 use crate::Step;
 use crate::Surveyed;
 use crate::Walk;
@@ -11,6 +12,7 @@ ghost use mathlib.Core.Path.{_≡_};
 ghost use mathlib.Core.Bool.{true};
 ghost use lib.ListN.{length};
 ghost use Rattle.records.specs.Layout.{isTable};
+ghost use Rattle.lookup.specs.Reading.{Walked};
 ghost use Rattle.lookup.specs.Walking.{sideOn, downOn, seenOn, stepOn, walkFrom};
 
 // Walks the path of k from the top, and writes the widths of its nodes. The upper nodes are passed by
@@ -20,9 +22,9 @@ pub fn walk_path(table: &[u32], k: Prefix, widths: &mut [u8; 129]) -> Surveyed
     ensures { λ r. ⌜ walkFrom (now (table .entry)) k (now (widths .entry)) ≡ record { widths = now (widths .exit); out = r } ⌝ }
 {
     let h = records::read_header(table);
-    let d = descent::descend(table, k, h.root, widths);
-    let mut n = d.n;
-    let mut s = descent::walk_of(table, k, d);
+    let t = descent::trace(table, k, h.root, widths);
+    let mut n = t.to.n;
+    let mut s = descent::walk_of(table, k, t.to, t.last);
     let met = loop {
         let x = step_at(table, k, s);
         match x {
@@ -45,6 +47,39 @@ pub fn walk_path(table: &[u32], k: Prefix, widths: &mut [u8; 129]) -> Surveyed
         }
     };
     Surveyed::Path(n, s, met)
+}
+
+// The same for a read, which asks for no link: the walk carries none, and its loop yields the node that it
+// ends at, the last matching or the mismatching one, by its number on the path.
+pub fn read_path(table: &[u32], k: Prefix, widths: &mut [u8; 129]) -> Reading
+    requires { ⌜ (isTable (length (now table)) ≡ true) × (k .width ≤ 128) ⌝ }
+    ensures { λ r. ⌜ Walked (walkFrom (now (table .entry)) k (now (widths .entry))) r (now (widths .exit)) ⌝ }
+{
+    let h = records::read_header(table);
+    let d = descent::descend(table, k, h.root, widths);
+    let mut n = d.n;
+    let mut s = descent::walk_of(table, k, d, 0);
+    let last = loop {
+        let x = step_at(table, k, s);
+        match x {
+            Step::Down(w, d) => {
+                widths[n] = w as u8;
+                n += 1;
+                s = d;
+            }
+            Step::Last(w, _) => {
+                widths[n] = w as u8;
+                break n + 1;
+            }
+            Step::End => {
+                break n;
+            }
+            Step::Bad => {
+                return Reading::Damaged;
+            }
+        }
+    };
+    Reading::Path(last, s.best, s.zone)
 }
 
 // One step: the record of the next link, if there is one.

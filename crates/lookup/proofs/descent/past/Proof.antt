@@ -9,4 +9,4 @@ returns : tie.Need-returns
 returns c = pastOn-past _ _ _ _ (search needs) (search needs)
 
 pub past-spec : {M : Type 1} → statement M
-past-spec = tie.close (tie.spec (λ c. search needs) (λ c κs. search needs) (λ c. search needs) (λ c. search needs) (λ c. search needs) returns)
+past-spec = tie.close (tie.spec (λ c. search needs) (λ c κs. search needs) (λ c. search needs) (λ c. search needs) returns)

@@ -9,8 +9,9 @@ returns : tie.Need-returns
 returns c =
     let at-next = c .before .before in
     let at-over = at-next .before in
-    walkIn-of _ _ _ _ _ _ _ _ _ (at-over .before .before .before .before .link-of .ensures) (at-over .before .before .link-of2 .ensures) (at-over .link-of3 .ensures)
+    walkIn-of _ _ _ _ _ _ _ _ _ _ (at-over .before .before .link-of .ensures) (at-over .before .link-of2 .ensures) (at-over .link-of3 .ensures)
     (at-next .next-of .ensures) (c .before .best-at .ensures) (c .zone-at .ensures)
 
 pub walk-of-spec : {M : Type 1} → statement M
-walk-of-spec = tie.close (tie.spec (λ c κs. search needs) (λ c κs. search needs) (λ c κs. search needs) (λ c κs. search needs) (λ c κs. search needs) (λ c κs. search needs) returns)
+walk-of-spec = tie.close
+    (tie.spec (λ c κs. search needs) (λ c κs. search needs) (λ c κs. search needs) (λ c κs. search needs) (λ c κs. search needs) (λ c κs. search needs) returns)

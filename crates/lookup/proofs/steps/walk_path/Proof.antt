@@ -31,16 +31,16 @@ last-grows c = stepOn-grown _ _ _ _ _ (c .before .before .before .step-at .ensur
 read-header-requires : tie.Need-read-header-requires Inv-loop μ-loop
 read-header-requires c κs = isTable-true _ (c .before .pre .0) .least
 
-descend-requires : tie.Need-descend-requires Inv-loop μ-loop
-descend-requires c κs = (search needs, search needs, header-root _ _ (c .before .read-header .ensures))
+trace-requires : tie.Need-trace-requires Inv-loop μ-loop
+trace-requires c κs = (search needs, search needs, header-root _ _ (c .before .read-header .ensures))
 
 walk-of-requires : tie.Need-walk-of-requires Inv-loop μ-loop
-walk-of-requires c κs = (c .descend .ensures .sound, search needs)
+walk-of-requires c κs = (c .trace .ensures .sound, search needs)
 
 loop-holds : tie.Need-loop-holds Inv-loop μ-loop
 loop-holds c =
-    let d = c .before .descend .ensures in
-    let e = low-walkIn _ _ _ _ (c .walk-of .ensures) in
+    let d = c .before .trace .ensures in
+    let e = low-walkIn _ _ _ _ _ (c .walk-of .ensures) in
     (omega (arith, d .few, e), omega (arith, d .early, e), refl)
 
 loop-again : tie.Need-loop-again Inv-loop μ-loop
@@ -55,19 +55,19 @@ loop-again c =
 returns : tie.Need-returns Inv-loop μ-loop
 returns c =
     let at-step = c .before .before in
-    walkFrom-descended _ _ _ _ _ _ (at-step .before .before .before .descend .ensures) (at-step .before .before .walk-of .ensures)
+    walkFrom-descended _ _ _ _ _ _ _ (at-step .before .before .before .trace .ensures) (at-step .before .before .walk-of .ensures)
     ∙ walkOn-bad _ _ _ _ _ _ _ (at-step .step-at .ensures) (at-step .before .loop .inv .2) (omega arith) (c .enum-told2 .given .1)
 
 returns-2 : tie.Need-returns-2 Inv-loop μ-loop
 returns-2 c =
     let at-step = c .before .before .before in
-    walkFrom-descended _ _ _ _ _ _ (at-step .before .before .before .descend .ensures) (at-step .before .before .walk-of .ensures)
+    walkFrom-descended _ _ _ _ _ _ _ (at-step .before .before .before .trace .ensures) (at-step .before .before .walk-of .ensures)
     ∙ walkOn-last _ _ _ _ _ _ _ (at-step .step-at .ensures) (at-step .before .loop .inv .2) (omega arith) _ _ (c .before .x2 .given .1)
 
 returns-3 : tie.Need-returns-3 Inv-loop μ-loop
 returns-3 c =
     let at-step = c .before .before in
-    walkFrom-descended _ _ _ _ _ _ (at-step .before .before .before .descend .ensures) (at-step .before .before .walk-of .ensures)
+    walkFrom-descended _ _ _ _ _ _ _ (at-step .before .before .before .trace .ensures) (at-step .before .before .walk-of .ensures)
     ∙ walkOn-end _ _ _ _ _ _ _ (at-step .step-at .ensures) (at-step .before .loop .inv .2) (omega arith) (c .enum-told .given .1)
 
 pub walk-path-spec : {M : Type 1} → statement M
@@ -77,7 +77,7 @@ walk-path-spec =
     Inv-loop
     μ-loop
     read-header-requires
-    descend-requires
+    trace-requires
     walk-of-requires
     loop-holds
     (λ c κs. search needs)

@@ -1,0 +1,41 @@
+-- What a read comes to, on any words: what fetch and longest match have in common.
+-- Paper 01, "The lent table" and "Numbered refusals".
+--   readOf x          what a read keeps of a survey: no link, which an edit alone asks for
+--   nodesOf r         how many nodes a reading has widths of
+--   Walked v r after  the contract of `read_path`: what a walk that leaves v comes to for a read
+--   readOn ws k bs    the contract of `read`: its reading, and the trail's bytes
+-- Assumes nothing.
+use Prim.Native.Nat.{ℕ}
+use mathlib.Core.Path.{_≡_}
+use mathlib.Core.List.{List}
+use lib.ListN.{length, replicate}
+use Rattle.prefix.specs.declared.Prefix.{Prefix}
+use Rattle.lookup.specs.Walking.{Survey, surveyOn, Outcome, leaveOn}
+use Rattle.lookup.specs.declared.Surveyed.{Surveyed}
+use Rattle.lookup.specs.declared.Surveyed.the-variants as surveyed
+use Rattle.lookup.specs.declared.Reading.{Reading}
+use Rattle.lookup.specs.declared.Reading.the-variants.{Path, BadLength, BadPrefix, ShortOut, Damaged}
+
+abbrev pub readOf : Surveyed → Reading
+readOf (surveyed.Path n s e) = Path n (s .best) (s .zone)
+readOf surveyed.BadLength = BadLength
+readOf surveyed.BadPrefix = BadPrefix
+readOf surveyed.ShortOut = ShortOut
+readOf surveyed.Damaged = Damaged
+
+abbrev pub nodesOf : Reading → ℕ
+nodesOf (Path n b z) = n
+nodesOf BadLength = 0
+nodesOf BadPrefix = 0
+nodesOf ShortOut = 0
+nodesOf Damaged = 0
+
+pub record Walked (v : Survey) (r : Reading) (after : List ℕ) : Type 0 where
+  pub answer : r ≡ readOf (v .out)
+  pub widths : after ≡ v .widths
+
+abbrev pub readBy : List ℕ → Survey → Outcome Reading
+readBy bs v = record { answer = readOf (v .out); bytes = leaveOn bs (v .widths) (v .out) }
+
+unfoldable pub readOn : List ℕ → Prefix → List ℕ → Outcome Reading
+readOn ws k bs = readBy bs (surveyOn ws k (length bs) (replicate 129 0))
