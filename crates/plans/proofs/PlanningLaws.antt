@@ -74,12 +74,11 @@ module _ (ws : List ℕ) (k : Prefix) (zone at l a next : ℕ) (x : Look) (e : x
             rw (← e, q, ← width-key, le-ltb 128 (p .width) g, lt-leb (p .width) (k .width) i)
             (hung-damaged ws us k at a next b h _ _ t)
 
-        pub aboveOn-done : (bare y : Record) (right : Bool) (vs : List ℕ) → bare ≡ nodeOf k (2 * k .width + 1) zone 0 0
-            → right ≡ bitAt p (k .width) → y ≡ withSide bare right l → vs ≡ withRecord us a y → Taken ws a → not b ≡ false
-            → Makes ws (aboveOn ws (headerAt ws) k zone at l a next) made.Done vs
+        pub aboveOn-done : (y : Record) (vs : List ℕ) → y ≡ withSide (nodeOf k (2 * k .width + 1) zone 0 0) (bitAt p (k .width)) l
+            → vs ≡ withRecord us a y → Taken ws a → not b ≡ false → Makes ws (aboveOn ws (headerAt ws) k zone at l a next) made.Done vs
         unfolding aboveOn
-        aboveOn-done bare y right vs d j m v t n =
-            rw (← e, q, ← width-key, le-ltb 128 (p .width) g, lt-leb (p .width) (k .width) i, ← f, ← j, ← d, ← m)
+        aboveOn-done y vs m v t n =
+            rw (← e, q, ← width-key, le-ltb 128 (p .width) g, lt-leb (p .width) (k .width) i, ← f, ← m)
             (hung-one ws us k at a next b h a y vs v t n)
 
 -- ---- forkOn, where x is what the second spare link leads to
@@ -98,14 +97,12 @@ module _ (ws : List ℕ) (k : Prefix) (zone at l b a next : ℕ) (x : Spare) (e 
     unfolding forkOn
     forkOn-unhung t = rw (← e, q) (hung-damaged ws us k at c rest d h _ _ t)
 
-    pub forkOn-done : (right : Bool) (p : Prefix) (bare y v : Record) (vs xs : List ℕ) → right ≡ bitAt k b → p ≡ cutOf k b
-        → bare ≡ nodeOf p (2 * b) 0 l l → v ≡ nodeOf k (2 * k .width + 1) zone 0 0 → y ≡ withSide bare right a
-        → vs ≡ withRecord us a v → xs ≡ withRecord vs c y → Taken ws a → not d ≡ false
-        → Makes ws (forkOn ws (headerAt ws) k zone at l b a next) made.Done xs
+    pub forkOn-done : (v y : Record) (vs xs : List ℕ) → v ≡ nodeOf k (2 * k .width + 1) zone 0 0
+        → y ≡ withSide (nodeOf (cutOf k b) (2 * b) 0 l l) (bitAt k b) a → vs ≡ withRecord us a v → xs ≡ withRecord vs c y → Taken ws a
+        → not d ≡ false → Makes ws (forkOn ws (headerAt ws) k zone at l b a next) made.Done xs
     unfolding forkOn
-    forkOn-done right p bare y v vs xs f g i j m n o t z =
-        rw (← e, q, ← j, ← f, ← g, ← i, ← m)
-        (hung-two ws us k at c rest d h a v vs n t z c y xs o (spareOn-taken ws next x c rest e q))
+    forkOn-done v y vs xs j m n o t z =
+        rw (← e, q, ← j, ← m) (hung-two ws us k at c rest d h a v vs n t z c y xs o (spareOn-taken ws next x c rest e q))
 
 -- ---- newOn
 

@@ -10,10 +10,13 @@ use crate::parts::with_side;
 use lookup::Met;
 use lookup::Walk;
 use prefix::Prefix;
-ghost use Prim.Native.Nat.{_≤_, _<_};
+use records::Record;
+ghost use Prim.Native.Nat.{_+_, _*_, _≤_, _<_};
+ghost use mathlib.Core.Path.{_≡_};
 ghost use lib.ListN.{length};
-ghost use Rattle.records.specs.Layout.{headerAt};
-ghost use Rattle.plans.specs.Planning.{hereOn, aboveOn, forkOn, newOn, planStoreOn};
+ghost use Rattle.prefix.specs.Keys.{cutOf};
+ghost use Rattle.records.specs.Layout.{headerAt, withSide};
+ghost use Rattle.plans.specs.Planning.{nodeOf, bitAt, hereOn, aboveOn, forkOn, newOn, planStoreOn};
 ghost use Rattle.plans.specs.Making.{Makes, Taken};
 
 // Stores k with its zone number, from where the walk ended. It reads the last node on the path that is a
@@ -64,7 +67,7 @@ fn new(table: &mut [u32], k: Prefix, zone: u32, at: u32, e: Met, a: u32, next: u
             if !hang(table, k, at, a, next) {
                 return Made::Damaged;
             }
-            records::write_record(table, a, node_of(k, 2 * k.width + 1, zone, 0, 0));
+            records::write_record(table, a, leaf(k, zone));
             Made::Done
         }
         Met::Mismatching(l, b) => {
@@ -97,8 +100,7 @@ fn above(table: &mut [u32], k: Prefix, zone: u32, at: u32, l: u32, a: u32, next:
             if !hang(table, k, at, a, next) {
                 return Made::Damaged;
             }
-            let bare = node_of(k, 2 * k.width + 1, zone, 0, 0);
-            records::write_record(table, a, with_side(bare, prefix::bit(p, k.width), l));
+            records::write_record(table, a, above_of(k, zone, p, l));
             Made::Done
         }
     }
@@ -117,10 +119,40 @@ fn fork(table: &mut [u32], k: Prefix, zone: u32, at: u32, l: u32, b: u32, a: u32
             if !hang(table, k, at, c, rest) {
                 return Made::Damaged;
             }
-            let bare = node_of(prefix::cut(k, b), 2 * b, 0, l, l);
-            records::write_record(table, a, node_of(k, 2 * k.width + 1, zone, 0, 0));
-            records::write_record(table, c, with_side(bare, prefix::bit(k, b), a));
+            let top = branch(k, b, l, a);
+            records::write_record(table, a, leaf(k, zone));
+            records::write_record(table, c, top);
             Made::Done
         }
     }
+}
+
+// ---- the new nodes, by value
+
+// The key's node, with no side.
+fn leaf(k: Prefix, zone: u32) -> Record
+    requires { ⌜ k .width ≤ 128 ⌝ }
+    ensures { λ r. ⌜ r ≡ nodeOf k (2 * k .width + 1) zone 0 0 ⌝ }
+{
+    node_of(k, 2 * k.width + 1, zone, 0, 0)
+}
+
+// The key's node above the node of p, whose link is l.
+fn above_of(k: Prefix, zone: u32, p: Prefix, l: u32) -> Record
+    requires { ⌜ (p .width ≤ 128) × (k .width < p .width) ⌝ }
+    ensures { λ r. ⌜ r ≡ withSide (nodeOf k (2 * k .width + 1) zone 0 0) (bitAt p (k .width)) l ⌝ }
+{
+    with_side(leaf(k, zone), prefix::bit(p, k.width), l)
+}
+
+// The branch node of the first b bits of k: the link a on the side that k goes on by, and l on the other.
+fn branch(k: Prefix, b: u32, l: u32, a: u32) -> Record
+    requires { ⌜ (k .width ≤ 128) × (b < k .width) ⌝ }
+    ensures { λ r. ⌜ r ≡ withSide (nodeOf (cutOf k b) (2 * b) 0 l l) (bitAt k b) a ⌝ }
+{
+    with_side(
+        node_of(prefix::cut(k, b), 2 * b, 0, l, l),
+        prefix::bit(k, b),
+        a,
+    )
 }

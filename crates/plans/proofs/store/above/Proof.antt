@@ -21,13 +21,17 @@ returns-2 c =
 
 returns-3 : tie.Need-returns-3
 returns-3 c =
-    let at-key = c .before .before .before .before .before .before .before .before .before .before in
+    let at-wide = c .before .before .before .before .before .before .before .before in
+    let at-key = at-wide .before .before in
     let at-x = at-key .before .before in
-    aboveOn-unhung _ _ _ _ _ _ _ _ (at-x .before .before .look-at .ensures) _ _ (at-x .x .given .1) (at-key .key-of .ensures) (c .before .before .before .before .before .before .before .before .if1 .left)
+    aboveOn-unhung _ _ _ _ _ _ _ _ (at-x .before .before .look-at .ensures) _ _ (at-x .x .given .1) (at-key .key-of .ensures) (at-wide .if1 .left)
     (search needs) _ _ (c .before .before .before .hang .ensures) (c .if3 .taken)
 
 write-record-requires : tie.Need-write-record-requires
-write-record-requires c κs = inside-hung _ _ _ _ _ _ _ (c .before .before .before .before .before .before .before .before .hang .ensures) _ (c .before .before .before .before .before .before .before .before .before .before .before .before .before .before .before .before .before .before .before .before .before .before .pre .2)
+write-record-requires c κs =
+    let at-hang = c .before .before .before .before .before in
+    let at-key = at-hang .before .before .before .before .before .before .before in
+    inside-hung _ _ _ _ _ _ _ (at-hang .hang .ensures) _ (at-key .before .before .before .before .before .before .before .pre .2)
 
 returns-4 : tie.Need-returns-4
 returns-4 c = aboveOn-nothing _ _ _ _ _ _ _ _ (c .before .before .look-at .ensures) (c .enum-told .given .1)
@@ -37,12 +41,13 @@ returns-5 c = aboveOn-outside _ _ _ _ _ _ _ _ (c .before .before .look-at .ensur
 
 returns-6 : tie.Need-returns-6
 returns-6 c =
-    let at-node = c .before .before .before .before .before .before in
+    let at-node = c .before .before .before in
     let at-hang = at-node .before .before .before .before .before in
-    let at-key = at-hang .before .before .before .before .before .before .before in
+    let at-wide = at-hang .before .before .before .before .before in
+    let at-key = at-wide .before .before in
     let at-x = at-key .before .before in
-    aboveOn-done _ _ _ _ _ _ _ _ (at-x .before .before .look-at .ensures) _ _ (at-x .x .given .1) (at-key .key-of .ensures) (c .before .before .before .before .before .before .before .before .before .before .before .before .before .before .before .before .if1 .left)
-    (c .before .before .before .before .before .before .before .before .before .before .before .before .before .if2 .left) _ _ (at-hang .hang .ensures) _ _ _ _ (at-node .node-of .ensures) (c .before .before .before .before .bit .ensures) (c .before .before .before .with-side .ensures)
+    aboveOn-done _ _ _ _ _ _ _ _ (at-x .before .before .look-at .ensures) _ _ (at-x .x .given .1) (at-key .key-of .ensures) (at-wide .if1 .left)
+    (at-hang .before .before .if2 .left) _ _ (at-hang .hang .ensures) _ _ (at-node .above-of .ensures)
     (c .before .before .write-record .ensures) (at-x .before .before .before .before .before .pre .2) (at-node .before .before .if3 .left)
 
 pub above-spec : {M : Type 1} → statement M
@@ -61,10 +66,6 @@ above-spec =
     (λ c κs. search needs)
     (λ c. search needs)
     returns-3
-    (λ c. search needs)
-    (λ c. search needs)
-    (λ c κs. search needs)
-    (λ c κs. search needs)
     (λ c κs. search needs)
     write-record-requires
     (λ c. search needs)

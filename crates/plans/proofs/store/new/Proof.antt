@@ -1,4 +1,4 @@
--- `plans::store::new` meets its contract: by what the walk met, and then what is written is as the plan has it.
+-- `plans::store::new` meets its contract: by what the walk met.
 -- Assumes nothing.
 use borrow.Author.Needs.{needs}
 use Rattle.plans.proofs.PlanningLaws.{newOn-unhung, newOn-done, newOn-fork, newOn-above}
@@ -10,9 +10,10 @@ returns c = newOn-unhung _ _ _ _ _ _ _ _ (c .before .before .before .before .bef
 
 returns-2 : tie.Need-returns-2
 returns-2 c =
-    let at-hang = c .before .before .before .before .before .before .before .before .before in
-    newOn-done _ _ _ _ _ _ _ _ (at-hang .before .before .enum-told .given .1) _ _ (at-hang .hang .ensures) _ _ (c .before .before .before .node-of .ensures)
-    (c .before .before .write-record .ensures) (search needs) (c .before .before .before .before .before .before .if1 .left)
+    let at-node = c .before .before .before in
+    let at-hang = at-node .before .before .before .before .before in
+    newOn-done _ _ _ _ _ _ _ _ (at-hang .before .before .enum-told .given .1) _ _ (at-hang .hang .ensures) _ _ (at-node .leaf .ensures)
+    (c .before .before .write-record .ensures) (search needs) (at-node .before .before .if1 .left)
 
 returns-3 : tie.Need-returns-3
 returns-3 c = newOn-fork _ _ _ _ _ _ _ _ _ (c .before .before .before .before .before .before .before .e .given .1) _ _ (c .before .before .fork .ensures) (search needs)
@@ -28,8 +29,6 @@ new-spec =
     (λ c κs. search needs)
     (λ c. search needs)
     returns
-    (λ c. search needs)
-    (λ c. search needs)
     (λ c κs. search needs)
     (λ c κs. search needs)
     (λ c. search needs)
