@@ -29,7 +29,7 @@ use Rattle.listing.specs.declared.Sliced.the-variants.{Given}
 use Rattle.listing.proofs.TourLaws.{tourFrom-out, tourFrom-pending}
 use Rattle.listing.proofs.Items.{Item, items, allItems, storedIn, upTo, past}
 use Rattle.listing.proofs.SliceItemsLaws.{keys-items, given-items, remains-items, passed-items}
-use Rattle.listing.proofs.SeekLaws.{Resumes, Sought, startOn-holds}
+use Rattle.listing.proofs.StartLaws.{Resumes, Sought, startOn-holds}
 
 -- ---- refusedOf
 

@@ -1,3 +1,4 @@
+pub mod StackLaws
 pub mod TouringLaws
 pub mod TourOnLaws
 pub mod Items
@@ -8,6 +9,8 @@ pub mod SliceItemsLaws
 pub mod PushLaws
 pub mod SoughtLaws
 pub mod SeekLaws
+pub mod StartLaws
 pub mod HoldsLaws
+pub mod TouringRestsLaws
 pub mod SliceRestsLaws
 pub mod SlicingLaws

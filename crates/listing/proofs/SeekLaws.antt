@@ -2,7 +2,7 @@
 -- then lead to all the nodes after the resume, in their order. No contract cites this file.
 -- Assumes nothing.
 use Prim.Native.Nat.{ℕ, zero, suc, _+_, _≤_, min}
-use native.Mathlib.Nat.{add-zero, zero-add}
+use native.Mathlib.Nat.{add-zero}
 use native.Mathlib.Omega.{arith}
 use mathlib.Core.Path.{_≡_, refl, sym, ap, _∙_}
 use mathlib.Core.Bool.{Bool, true, false}
@@ -11,28 +11,18 @@ use mathlib.Core.Option.{Option}
 use lib.Dec.{T}
 use lib.ListN.{length, length-append}
 use borrow.Author.Tests.{ne-eqb}
-use Rattle.bits.specs.Lists.{keep}
 use Rattle.bits.specs.Bits.{Bits, isPrefix, lcp, meet}
 use Rattle.bits.specs.declared.Meeting.{Meeting}
 use Rattle.bits.specs.declared.Meeting.the-variants.{Equal, Below, Above, Apart}
-use Rattle.bits.proofs.ListsLaws.{keep-every}
 use Rattle.bits.proofs.BitsLaws.{isPrefix-length, lcp-greatest}
 use Rattle.bits.proofs.MeetLaws.{Says, meet-says}
 use Rattle.prefix.specs.Keys.{stringOf, Valid}
 use Rattle.prefix.specs.declared.Prefix.{Prefix}
 use Rattle.prefix.proofs.KeysLaws.{length-stringOf}
-use Rattle.zones.specs.Maps.{Map}
 use Rattle.zones.specs.Tree.{Tree, tip, node, Good, onward, walk}
-use Rattle.zones.specs.Slices.{after, found}
-use Rattle.records.specs.Layout.{recordAt, headerAt}
-use Rattle.records.specs.Holds.{Holds}
+use Rattle.records.specs.Layout.{recordAt}
 use Rattle.records.proofs.LayoutLaws.{roomOf-zero}
-use Rattle.records.proofs.HoldsLaws.{labels-room}
-use Rattle.lookup.proofs.HoldsLaws.{path-holds}
-use Rattle.listing.specs.Touring.{Stack, pushOn, soughtOn, Seeking, afterOn, seekOn, seekFrom, startOn}
-use Rattle.listing.specs.Slicing.{resumeOf}
-use Rattle.listing.specs.declared.Resume.{Resume}
-use Rattle.listing.specs.declared.Resume.the-variants.{Start, After}
+use Rattle.listing.specs.Touring.{Stack, pushOn, soughtOn, Seeking, afterOn, seekOn}
 use Rattle.listing.specs.declared.Seek.the-variants as seek
 use Rattle.listing.specs.declared.Sought.the-variants as sought
 use Rattle.listing.proofs.Items.{Item, items, allItems, height, Stacked, Pending}
@@ -43,24 +33,24 @@ use Rattle.listing.proofs.SoughtLaws.{Met, soughtOn-above, soughtOn-apa
 -- ---- seekOn
 
 -- x is a way's end where n nodes were met, and what is left leads to the items is
-record Comes (ws : List ℕ) (n : ℕ) (is : List Item) (x : Seeking) : Type 0 where
-  next : ℕ
-  depth : ℕ
-  tree : Tree ℕ
-  trees : List (Tree ℕ)
-  out : x .out ≡ seek.At next depth n
-  pending : Pending ws next (x .links) depth tree trees
-  items-is : items tree ++ allItems trees ≡ is
+pub record Comes (ws : List ℕ) (n : ℕ) (is : List Item) (x : Seeking) : Type 0 where
+  pub next : ℕ
+  pub depth : ℕ
+  pub tree : Tree ℕ
+  pub trees : List (Tree ℕ)
+  pub out : x .out ≡ seek.At next depth n
+  pub pending : Pending ws next (x .links) depth tree trees
+  pub items-is : items tree ++ allItems trees ≡ is
 
 -- where a way for k stands that looks for what begins with p, may still make f steps, and has the trees ts
 -- on its stack
-record Stands (ws : List ℕ) (k : Prefix) (p : Bits) (low f : ℕ) (ls : List ℕ) (o : ℕ) (ts : List (Tree ℕ)) : Type 0 where
-  prefix : T (isPrefix p (stringOf k))
-  low-is : low ≡ length p
-  fuel : 130 ≤ low + f
-  shallow : o ≤ length p
-  stacked : Stacked ws ls o ts
-  length-is : length ls ≡ 129
+pub record Stands (ws : List ℕ) (k : Prefix) (p : Bits) (low f : ℕ) (ls : List ℕ) (o : ℕ) (ts : List (Tree ℕ)) : Type 0 where
+  pub prefix : T (isPrefix p (stringOf k))
+  pub low-is : low ≡ length p
+  pub fuel : 130 ≤ low + f
+  pub shallow : o ≤ length p
+  pub stacked : Stacked ws ls o ts
+  pub length-is : length ls ≡ 129
 
 module _ (ws : List ℕ) (k : Prefix) where
   abbrev key : Bits
@@ -194,7 +184,7 @@ module _ (ws : List ℕ) (k : Prefix) where
       seekOn-node fl fr (Apart true) y =
           goes-to (rest-apart-none key a z v l r p g y) (goes-next 0 tip (soughtOn-apart meets true y) (leads-tip ws) (omega (arith, height-whole)))
 
-    seekOn-leads : (t : Tree ℕ) → Follows t
+    pub seekOn-leads : (t : Tree ℕ) → Follows t
     unfolding seekOn
     seekOn-leads tip p f n low ls o c ts g e st = seekOn-tip p f n low ls o c ts g e st
     seekOn-leads (node a z v l r) p zero n low ls o c ts g e st =
@@ -203,65 +193,3 @@ module _ (ws : List ℕ) (k : Prefix) where
         let at : Leads ws a (node a z v l r) = record { linked = (refl, e .linked .1, e .linked .2, e .linked .3); sound = e .sound } in
         rw (e .linked .0, ne-eqb a 0 (roomOf-zero (length ws) a (e .sound a (List·Memᴰ·head refl))))
         (seekOn-node a z v l r p f n low ls o ts g at st (seekOn-leads l) (seekOn-leads r) (meet z key) (meet-says z key))
-
--- ---- startOn
-
--- what is needed of a resume: that its prefix is valid, if there is one
-abbrev pub Resumes : Resume → Type 0
-Resumes Start = Unit {0}
-Resumes (After k) = Valid k
-
-pub record Sought (ws : List ℕ) (m : Map) (h : Holds ws m) (r : Resume) (ls : List ℕ) : Type 0 where
-  pub next : ℕ
-  pub depth : ℕ
-  pub number : ℕ
-  pub t : Tree ℕ
-  pub ts : List (Tree ℕ)
-  pub found-is : startOn ws r ls .out ≡ seek.At next depth number
-  pub pending : Pending ws next (startOn ws r ls .links) depth t ts
-  pub items-is : items t ++ allItems ts ≡ keep (λ i. after (resumeOf r) (i .key)) (items (h .tree))
-  pub number-is : number ≡ found m (resumeOf r)
-
-module _ (ws : List ℕ) (m : Map) (h : Holds ws m) (ls : List ℕ) (n : length ls ≡ 129) where
-  -- the whole tree is next
-  pending-holds : Pending ws (headerAt ws .root) ls 0 (h .tree) []
-  pending-holds =
-      let room : 0 + height (h .tree) ≤ 129 =
-      height-linked (recordAt ws) (headerAt ws .root) [] (h .tree) (omega arith) (h .good) (h .linked) in
-      record { linked = h .linked; sound = labels-room h; room = room; stacked = refl; length-is = n }
-
-  startOn-start : Sought ws m h Start ls
-  unfolding found
-  startOn-start =
-      record {
-        next = headerAt ws .root;
-        depth = 0;
-        number = 0;
-        t = h .tree;
-        ts = [];
-        found-is = refl;
-        pending = pending-holds;
-        items-is = append-nil (items (h .tree)) ∙ sym (keep-every (λ i. true) (items (h .tree)) (λ i j. tt));
-        number-is = refl;
-      }
-
-  startOn-after : (k : Prefix) → Valid k → Sought ws m h (After k) ls
-  unfolding seekFrom found
-  startOn-after k v =
-      let c = seekOn-leads ws k v (h .tree) [] 130 0 0 ls 0 (headerAt ws .root) [] (h .good) (record { linked = h .linked; sound = labels-room h })
-      (record { prefix = tt; low-is = refl; fuel = omega arith; shallow = omega arith; stacked = refl; length-is = n }) in
-      record {
-        next = c .next;
-        depth = c .depth;
-        number = length (walk (h .tree) (stringOf k));
-        t = c .tree;
-        ts = c .trees;
-        found-is = c .out ∙ ap (seek.At (c .next) (c .depth)) (zero-add (length (walk (h .tree) (stringOf k))));
-        pending = c .pending;
-        items-is = c .items-is ∙ append-nil (rest (stringOf k) (h .tree));
-        number-is = ap length (sym (path-holds ws m h (stringOf k)));
-      }
-
-  pub startOn-holds : (r : Resume) → Resumes r → Sought ws m h r ls
-  startOn-holds Start v = startOn-start
-  startOn-holds (After k) v = startOn-after k v

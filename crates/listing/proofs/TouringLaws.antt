@@ -1,5 +1,5 @@
--- The laws of the stack and of the way to the resume prefix over any words: one for each way out of their
--- functions, what a step shows of widths, and the bounds on what they answer. No contract cites this file.
+-- The laws of the way to the resume prefix over any words: one for each way out of its functions, what a step
+-- shows of widths, and the bounds on what they answer. No contract cites this file.
 -- Assumes nothing.
 use Prim.Native.Nat.{ℕ, zero, suc, _+_, _-_, _/_, _≤_, _<_}
 use native.Mathlib.Nat.{le-refl, le-trans}
@@ -8,8 +8,8 @@ use mathlib.Core.Path.{_≡_, refl, sym, ap, subst, _∙_}
 use mathlib.Core.Bool.{Bool, true, false, not, cond}
 use mathlib.Core.List.{List}
 use lib.Dec.{ltb, eqb}
-use lib.ListN.{length, getD, set}
-use borrow.Author.Tests.{ltb-false, not-true, not-false, lt-ltb, le-ltb, le-leb, lt-leb, eq-eqb, ne-eqb}
+use lib.ListN.{length, getD}
+use borrow.Author.Tests.{ltb-false, not-true, not-false, lt-ltb, le-ltb, eq-eqb, ne-eqb}
 use Rattle.bits.specs.Bits.{lcp}
 use Rattle.bits.proofs.BitsLaws.{length-lcp}
 use Rattle.prefix.specs.Keys.{stringOf, Shared}
@@ -18,43 +18,13 @@ use Rattle.prefix.proofs.KeysLaws.{length-stringOf}
 use Rattle.records.specs.Layout.{roomOf, recordAt, headerAt, keyOf}
 use Rattle.records.specs.declared.Record.{Record}
 use Rattle.records.specs.declared.Header.{Header}
-use Rattle.listing.specs.Touring.{Stack, pushOn, popOn, partedOf, passedOf, soughtOf, soughtOn, Seeking, afterOn, seekOn, seekFrom, startOn}
+use Rattle.listing.specs.Touring.{Stack, pushOn, partedOf, passedOf, soughtOf, soughtOn, Seeking, afterOn, seekOn, seekFrom, startOn}
 use Rattle.listing.specs.declared.Resume.{Resume}
 use Rattle.listing.specs.declared.Resume.the-variants.{Start, After}
 use Rattle.listing.specs.declared.Seek.{Seek}
 use Rattle.listing.specs.declared.Seek.the-variants as seek
 use Rattle.listing.specs.declared.Sought.{Sought}
 use Rattle.listing.specs.declared.Sought.the-variants as sought
-
--- ---- pushOn
-
-module _ (ls : List ℕ) (o l : ℕ) where
-  pub pushOn-none : l ≡ 0 → pushOn ls o l ≡ record { links = ls; depth = o }
-  unfolding pushOn
-  pushOn-none h = simp (eq-eqb _ _ h)
-
-  pub pushOn-full : (l ≡ 0 → ⊥) → 129 ≤ o → pushOn ls o l ≡ record { links = ls; depth = 130 }
-  unfolding pushOn
-  pushOn-full h g = simp (ne-eqb _ _ h, le-leb _ _ g)
-
-  pub pushOn-room : (l ≡ 0 → ⊥) → o < 129 → pushOn ls o l ≡ record { links = set ls o l; depth = o + 1 }
-  unfolding pushOn
-  pushOn-room h g = simp (ne-eqb _ _ h, lt-leb _ _ g)
-
--- ---- popOn
-
-module _ (ls : List ℕ) (at o : ℕ) where
-  pub popOn-given : (at ≡ 0 → ⊥) → record { next = at; depth = o } ≡ popOn ls at o
-  unfolding popOn
-  popOn-given h = simp (ne-eqb _ _ h)
-
-  pub popOn-none : at ≡ 0 → o ≡ 0 → record { next = 0; depth = o } ≡ popOn ls at o
-  unfolding popOn
-  popOn-none h g = simp (eq-eqb _ _ h, eq-eqb _ _ g)
-
-  pub popOn-last : at ≡ 0 → (o ≡ 0 → ⊥) → record { next = getD ls (o - 1) 0; depth = o - 1 } ≡ popOn ls at o
-  unfolding popOn
-  popOn-last h g = simp (eq-eqb _ _ h, ne-eqb _ _ g)
 
 -- what a step shows of widths: the node found is at most 128 wide, and no less than what it must share
 abbrev Widens : ℕ → Sought → Type 0

@@ -1,7 +1,7 @@
 -- `listing::links::pop` meets its contract: the tests are those of the definition.
 -- Assumes nothing.
 use borrow.Author.Needs.{needs}
-use Rattle.listing.proofs.TouringLaws.{popOn-given, popOn-none, popOn-last}
+use Rattle.listing.proofs.StackLaws.{popOn-given, popOn-none, popOn-last}
 use Rattle.listing.proofs.links.pop.Statement.{statement}
 use Rattle.listing.proofs.links.pop.Tie as tie
 

@@ -1,7 +1,7 @@
 -- `listing::links::push` meets its contract: the tests are those of the definition.
 -- Assumes nothing.
 use borrow.Author.Needs.{needs}
-use Rattle.listing.proofs.TouringLaws.{pushOn-none, pushOn-full, pushOn-room}
+use Rattle.listing.proofs.StackLaws.{pushOn-none, pushOn-full, pushOn-room}
 use Rattle.listing.proofs.links.push.Statement.{statement}
 use Rattle.listing.proofs.links.push.Tie as tie
 
