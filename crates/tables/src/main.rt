@@ -1,12 +1,15 @@
 // Run cases: the small cases M2 to M8 of paper 01 and their neighbours, through the calls on a lent
 // table; the lengths of a table; and the order of the refusals. Each line is a call and what it
 // answers; `stdout` beside this folder holds the answers that paper 01 gives.
-use edits::Freshened;
-use edits::Removal;
-use edits::Stored;
-use libc::STDOUT_FILENO;
-use lookup::Fetched;
-use lookup::Matched;
+mod calls; // one call, and a line
+mod printing; // trails, numbers and text
+
+use calls::answer;
+use calls::fetch;
+use calls::longest;
+use calls::made;
+use calls::remove;
+use calls::store;
 use prefix::Prefix;
 ghost use mathlib.Core.Path.{_≡_};
 ghost use lib.ListN.{length};
@@ -57,14 +60,6 @@ fn larger() -> [u32; 524_296]
     ensures { λ r. ⌜ 524296 ≡ length r ⌝ }
 {
     [0; 524_296]
-}
-
-fn made(text: &[u8], table: &mut [u32]) {
-    say(text);
-    match edits::fresh(table) {
-        Freshened::Done => say(b": fresh\n"),
-        Freshened::BadLength => say(b": BadLength\n"),
-    }
 }
 
 // ---- set A: 00 -> 10, 01 -> 20, 0110 -> 30
@@ -173,119 +168,7 @@ fn refused(table: &[u32]) {
     answer(b"129 bytes", table, of(0, 0), &mut bytes);
 }
 
-// ---- one call, and a line
-
-fn store(text: &[u8], table: &mut [u32], k: Prefix, zone: u32) {
-    let mut bytes = [0u8; 129];
-    say(b"store ");
-    say(text);
-    match edits::store(table, k, zone, &mut bytes) {
-        Stored::Added(n) => {
-            say(b": added");
-            trail(n, &bytes);
-        }
-        Stored::Replaced(n, z) => {
-            say(b": replaced ");
-            number(z);
-            trail(n, &bytes);
-        }
-        Stored::Full(n) => {
-            say(b": Full");
-            trail(n, &bytes);
-        }
-        _ => say(b": refused\n"),
-    }
-}
-
-fn remove(text: &[u8], table: &mut [u32], k: Prefix) {
-    let mut bytes = [0u8; 129];
-    say(b"remove ");
-    say(text);
-    match edits::remove(table, k, &mut bytes) {
-        Removal::Removed(n, z) => {
-            say(b": removed ");
-            number(z);
-            trail(n, &bytes);
-        }
-        Removal::Absent(n) => {
-            say(b": Absent");
-            trail(n, &bytes);
-        }
-        _ => say(b": refused\n"),
-    }
-}
-
-fn fetch(text: &[u8], table: &[u32], k: Prefix) {
-    let mut bytes = [0u8; 129];
-    say(b"fetch ");
-    say(text);
-    match lookup::fetch(table, k, &mut bytes) {
-        Fetched::Found(n, z) => {
-            say(b": ");
-            number(z);
-            trail(n, &bytes);
-        }
-        Fetched::Absent(n) => {
-            say(b": Absent");
-            trail(n, &bytes);
-        }
-        _ => say(b": refused\n"),
-    }
-}
-
-fn longest(text: &[u8], table: &[u32], k: Prefix) {
-    let mut bytes = [0u8; 129];
-    say(b"longest match of ");
-    say(text);
-    match lookup::longest_match(table, k, &mut bytes) {
-        Matched::Match(n, w, z) => {
-            say(b": ");
-            number(z);
-            say(b" at width ");
-            number(w);
-            trail(n, &bytes);
-        }
-        Matched::NoMatch(n) => {
-            say(b": no match");
-            trail(n, &bytes);
-        }
-        _ => say(b": refused\n"),
-    }
-}
-
-// What fetch answers, by its name alone.
-fn answer(text: &[u8], table: &[u32], k: Prefix, out: &mut [u8]) {
-    say(text);
-    match lookup::fetch(table, k, out) {
-        Fetched::Found(_, _) => say(b": Found\n"),
-        Fetched::BadLength => say(b": BadLength\n"),
-        Fetched::BadPrefix => say(b": BadPrefix\n"),
-        Fetched::ShortOut => say(b": ShortOut\n"),
-        Fetched::Damaged => say(b": Damaged\n"),
-        Fetched::Absent(_) => say(b": Absent\n"),
-    }
-}
-
-// ---- printing
-
-// ", trail" and the first n bytes.
-fn trail(n: usize, bytes: &[u8; 129]) {
-    say(b", trail");
-    let mut i: usize = 0;
-    while i < n {
-        if i < 129 {
-            byte(bytes[i]);
-        }
-        i += 1;
-    }
-    say(b"\n");
-}
-
-// A space and the byte.
-fn byte(b: u8) {
-    say(b" ");
-    number(b as u32);
-}
+// ---- keys
 
 // A key of at most 32 bits.
 fn of(width: u32, w0: u32) -> Prefix {
@@ -296,12 +179,4 @@ fn of(width: u32, w0: u32) -> Prefix {
         w2: 0,
         w3: 0,
     }
-}
-
-fn number(n: u32) {
-    io::print_decimal(STDOUT_FILENO, n as u64);
-}
-
-fn say(text: &[u8]) {
-    io::write_all(STDOUT_FILENO, text);
 }

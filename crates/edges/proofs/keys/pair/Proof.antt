@@ -1,8 +1,8 @@
--- `edges::pair` meets its contract: both prefixes passed `valid`, which says so of them.
+-- `edges::keys::pair` meets its contract: both prefixes passed `valid`, which says so of them.
 -- Assumes nothing.
 use borrow.Author.Needs.{needs}
-use Rattle.edges.proofs.pair.Statement.{statement}
-use Rattle.edges.proofs.pair.Tie as tie
+use Rattle.edges.proofs.keys.pair.Statement.{statement}
+use Rattle.edges.proofs.keys.pair.Tie as tie
 
 compared-requires : tie.Need-compared-requires
 compared-requires c κs =

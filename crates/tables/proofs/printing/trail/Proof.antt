@@ -1,9 +1,9 @@
--- `tables::trail` meets its contract: `i` goes up by ones to `n`, and is below 129 where a byte is read.
+-- `tables::printing::trail` meets its contract: `i` goes up by ones to `n`, and is below 129 where a byte is read.
 -- Assumes nothing.
 use Prim.Native.Nat.{_-_}
 use borrow.Author.Needs.{needs}
-use Rattle.tables.proofs.trail.Statement.{statement}
-use Rattle.tables.proofs.trail.Tie as tie
+use Rattle.tables.proofs.printing.trail.Statement.{statement}
+use Rattle.tables.proofs.printing.trail.Tie as tie
 
 abbrev Inv-loop : tie.InvT-loop
 Inv-loop n bytes i₀ t5 i = Unit
