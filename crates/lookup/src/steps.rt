@@ -7,13 +7,13 @@ use crate::Walk;
 use crate::descent;
 use prefix::Prefix;
 use records::Record;
-ghost use Prim.Native.Nat.{_≤_};
+ghost use Prim.Native.Nat.{_-_, _≤_};
 ghost use mathlib.Core.Path.{_≡_};
 ghost use mathlib.Core.Bool.{true};
 ghost use lib.ListN.{length};
 ghost use Rattle.records.specs.Layout.{isTable};
-ghost use Rattle.lookup.specs.Reading.{Walked};
-ghost use Rattle.lookup.specs.Walking.{sideOn, downOn, seenOn, stepOn, walkFrom};
+ghost use Rattle.lookup.specs.Reading.{readOf, Walked};
+ghost use Rattle.lookup.specs.Walking.{sideOn, downOn, seenOn, stepOn, walkOn, walkFrom};
 
 // Walks the path of k from the top, and writes the widths of its nodes. The upper nodes are passed by
 // a descent.
@@ -23,8 +23,41 @@ pub fn walk_path(table: &[u32], k: Prefix, widths: &mut [u8; 129]) -> Surveyed
 {
     let h = records::read_header(table);
     let t = descent::trace(table, k, h.root, widths);
-    let mut n = t.to.n;
-    let mut s = descent::walk_of(table, k, t.to, t.last);
+    let s = descent::walk_of(table, k, t.to, t.last);
+    walk_on(table, k, t.to.n, s, widths)
+}
+
+// The same for a read, which asks for no link: the walk carries none.
+pub fn read_path(table: &[u32], k: Prefix, widths: &mut [u8; 129]) -> Reading
+    requires { ⌜ (isTable (length (now table)) ≡ true) × (k .width ≤ 128) ⌝ }
+    ensures { λ r. ⌜ Walked (walkFrom (now (table .entry)) k (now (widths .entry))) r (now (widths .exit)) ⌝ }
+{
+    let h = records::read_header(table);
+    let d = descent::descend(table, k, h.root, widths);
+    let s = descent::walk_of(table, k, d, 0);
+    reading_of(walk_on(table, k, d.n, s, widths))
+}
+
+// What a read keeps of a walk.
+fn reading_of(x: Surveyed) -> Reading
+    ensures { λ r. ⌜ r ≡ readOf x ⌝ }
+{
+    match x {
+        Surveyed::Path(n, s, _) => Reading::Path(n, s.best, s.zone),
+        Surveyed::BadLength => Reading::BadLength,
+        Surveyed::BadPrefix => Reading::BadPrefix,
+        Surveyed::ShortOut => Reading::ShortOut,
+        Surveyed::Damaged => Reading::Damaged,
+    }
+}
+
+// Goes on step by step from where a walk stands after some nodes, to the end of the path.
+fn walk_on(table: &[u32], k: Prefix, nodes: usize, from: Walk, widths: &mut [u8; 129]) -> Surveyed
+    requires { ⌜ (k .width ≤ 128) × (nodes ≤ from .low) × (from .low ≤ 129) ⌝ }
+    ensures { λ r. ⌜ walkOn (130 - nodes) (now (table .entry)) k nodes (now (widths .entry)) from ≡ record { widths = now (widths .exit); out = r } ⌝ }
+{
+    let mut n = nodes;
+    let mut s = from;
     let met = loop {
         let x = step_at(table, k, s);
         match x {
@@ -47,39 +80,6 @@ pub fn walk_path(table: &[u32], k: Prefix, widths: &mut [u8; 129]) -> Surveyed
         }
     };
     Surveyed::Path(n, s, met)
-}
-
-// The same for a read, which asks for no link: the walk carries none, and its loop yields the node that it
-// ends at, the last matching or the mismatching one, by its number on the path.
-pub fn read_path(table: &[u32], k: Prefix, widths: &mut [u8; 129]) -> Reading
-    requires { ⌜ (isTable (length (now table)) ≡ true) × (k .width ≤ 128) ⌝ }
-    ensures { λ r. ⌜ Walked (walkFrom (now (table .entry)) k (now (widths .entry))) r (now (widths .exit)) ⌝ }
-{
-    let h = records::read_header(table);
-    let d = descent::descend(table, k, h.root, widths);
-    let mut n = d.n;
-    let mut s = descent::walk_of(table, k, d, 0);
-    let last = loop {
-        let x = step_at(table, k, s);
-        match x {
-            Step::Down(w, d) => {
-                widths[n] = w as u8;
-                n += 1;
-                s = d;
-            }
-            Step::Last(w, _) => {
-                widths[n] = w as u8;
-                break n + 1;
-            }
-            Step::End => {
-                break n;
-            }
-            Step::Bad => {
-                return Reading::Damaged;
-            }
-        }
-    };
-    Reading::Path(last, s.best, s.zone)
 }
 
 // One step: the record of the next link, if there is one.
