@@ -26,6 +26,7 @@ madeOf (planned.Go p) = made.Done
 madeOf planned.Damaged = made.Damaged
 madeOf planned.Full = made.Full
 
+-- "Every refusal leaves the table's words alone."
 abbrev pub leftBy : List ℕ → Planned → List ℕ
 leftBy ws (planned.Go p) = applied ws p
 leftBy ws planned.Damaged = ws
