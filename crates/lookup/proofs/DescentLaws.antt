@@ -18,7 +18,7 @@ use Rattle.records.specs.declared.Record.{Record}
 use Rattle.records.specs.declared.Header.{Header}
 use Rattle.records.proofs.LayoutLaws.{isTable-true}
 use Rattle.lookup.specs.Walking.{agreeOn, walkOn, walkFrom}
-use Rattle.lookup.specs.Descending.{Whole, Held, Passed, Turned, endsOn, pastOn, nextIn, bestIn, zoneIn, walkIn, Descended}
+use Rattle.lookup.specs.Descending.{Whole, Held, Passed, Turned, endsOn, pastOn, bestIn, zoneIn, walkIn, Descended}
 use Rattle.lookup.specs.declared.Walk.{Walk}
 use Rattle.lookup.specs.declared.descent.Descent.{Descent}
 use Rattle.lookup.specs.declared.descent.Turn.{Turn}
@@ -48,7 +48,7 @@ module _ (ws : List ℕ) (k : Prefix) (at low tag : ℕ) (w : Whole at) (room : 
   pub passed-turn : (half hi own x left right : ℕ) → endsOn ws ≡ true → ((l : ℕ) → at ≡ place l → tag ≡ recordAt ws l .tag)
       → ((l : ℕ) → at ≡ place l → left ≡ recordAt ws l .left) → ((l : ℕ) → at ≡ place l → right ≡ recordAt ws l .right)
       → ((l : ℕ) → at ≡ place l → High (keyOf (recordAt ws l)) hi) → High k own → Parting hi own (tag / 2) x
-      → low ≤ tag / 2 → tag / 2 < half → (half ≤ k .width + 1) × (half ≤ 64) → x ≤ 1 → (link : ℕ) → link ≡ cond (eqb x 1) right left
+      → low ≤ tag / 2 → tag / 2 < half → (half ≤ k .width) × (half ≤ 64) → x ≤ 1 → (link : ℕ) → link ≡ cond (eqb x 1) right left
       → Passed ws k at low tag link
   unfolding agreeOn
   passed-turn half hi own x left right ne t tl tr h g p f e q s link el =
@@ -100,19 +100,11 @@ module _ (ws : List ℕ) (at : ℕ) where
     unfolding zoneIn
     zoneIn-some e = rw (ne-eqb at 0 ne) (e (at / 8) (h .whole))
 
-pub walkIn-of : (ws : List ℕ) (k : Prefix) (last : ℕ) (d : Descent) (a u o n b z : ℕ) → a ≡ last % 1048576 / 8 → u ≡ last / 1048576 % 1048576 / 8
-    → o ≡ last / 1099511627776 % 1048576 / 8 → n ≡ nextIn k d → b ≡ bestIn ws (d .held) → z ≡ zoneIn ws (d .held)
-    → record { at = a; up = u; over = o; next = n; low = d .low; best = b; zone = z } ≡ walkIn ws k last d
+pub walkIn-of : (ws : List ℕ) (last : ℕ) (d : Descent) (a u o b z : ℕ) → a ≡ last % 1048576 / 8 → u ≡ last / 1048576 % 1048576 / 8
+    → o ≡ last / 1099511627776 % 1048576 / 8 → b ≡ bestIn ws (d .held) → z ≡ zoneIn ws (d .held)
+    → record { at = a; up = u; over = o; next = d .next / 8; low = d .low; best = b; zone = z } ≡ walkIn ws last d
 unfolding walkIn
-walkIn-of ws k last d a u o n b z ea eu eo en eb ez = rw (ea, eu, eo, en, eb, ez)
-
-pub nextIn-own : (k : Prefix) (d : Descent) → d .low ≡ k .width + 1 → 0 ≡ nextIn k d
-unfolding nextIn
-nextIn-own k d e = rw (eq-eqb (d .low) (k .width + 1) e)
-
-pub nextIn-on : (k : Prefix) (d : Descent) → (d .low ≡ k .width + 1 → ⊥) → d .next / 8 ≡ nextIn k d
-unfolding nextIn
-nextIn-on k d ne = rw (ne-eqb (d .low) (k .width + 1) ne)
+walkIn-of ws last d a u o b z ea eu eo eb ez = rw (ea, eu, eo, eb, ez)
 
 -- ---- past
 
@@ -131,10 +123,10 @@ pub header-root : (ws : List ℕ) (h : Header) → h ≡ headerAt ws → h .root
 header-root ws h e = ap (λ (x : Header). x .root) e
 
 pub walkFrom-descended : (ws : List ℕ) (k : Prefix) (ts after : List ℕ) (last : ℕ) (d : Descent) (s : Walk) → Descended ws k ts last d after
-    → s ≡ walkIn ws k last d
+    → s ≡ walkIn ws last d
     → walkFrom ws k ts ≡ walkOn (130 - d .n) ws k (d .n) after s
 walkFrom-descended ws k ts after last d s h e = sym (h .same) ∙ rw e
 
-pub low-walkIn : (ws : List ℕ) (k : Prefix) (last : ℕ) (d : Descent) (s : Walk) → s ≡ walkIn ws k last d → s .low ≡ d .low
+pub low-walkIn : (ws : List ℕ) (last : ℕ) (d : Descent) (s : Walk) → s ≡ walkIn ws last d → s .low ≡ d .low
 unfolding walkIn
-low-walkIn ws k last d s e = rw e
+low-walkIn ws last d s e = rw e

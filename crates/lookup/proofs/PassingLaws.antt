@@ -2,7 +2,6 @@
 -- top comes to. No contract cites this file.
 -- Assumes nothing.
 use Prim.Native.Nat.{ℕ, _+_, _*_, _/_, _%_, _^_, _≤_, _<_, min}
-use native.Mathlib.Decide.{decLt}
 use native.Mathlib.Omega.{arith}
 use mathlib.Core.Path.{_≡_, refl, sym, ap, subst, _∙_}
 use mathlib.Core.Bool.{Bool, true, false, cond}
@@ -10,7 +9,7 @@ use mathlib.Core.List.{List}
 use lib.Dec.{eqb}
 use lib.ListN.{length, set}
 use lib.Pow.{shr-shr, high, low, field, mod-mod-pow}
-use borrow.Author.Tests.{lt-ltb, le-ltb, eq-eqb, ne-eqb}
+use borrow.Author.Tests.{lt-ltb, ne-eqb}
 use Rattle.bits.specs.Numbers.{odd}
 use Rattle.bits.proofs.BitsLaws.{length-lcp-take}
 use Rattle.prefix.specs.Keys.{wordBits, stringOf}
@@ -20,12 +19,11 @@ use Rattle.records.specs.Layout.{isTable, place, recordAt, headerAt, keyOf}
 use Rattle.records.specs.declared.Record.{Record}
 use Rattle.records.proofs.LayoutLaws.{isTable-true, room-roomOf}
 use Rattle.lookup.specs.Walking.{sharedOn, agreeOn, sideOn, downOn, stepOn, startOn, walkFrom}
-use Rattle.lookup.specs.Descending.{Held, Passed, topOf, pastOn, nextIn, bestIn, zoneIn, walkIn, Sound, Descended, Reached}
+use Rattle.lookup.specs.Descending.{Held, Passed, topOf, pastOn, bestIn, zoneIn, walkIn, Sound, Descended, Reached}
 use Rattle.lookup.specs.declared.Step.the-variants.{Down}
 use Rattle.lookup.specs.declared.descent.Descent.{Descent}
 use Rattle.lookup.proofs.StepsLaws.{stepOn-node, seenOn-down}
 use Rattle.lookup.proofs.WalkingLaws.{walkOn-down}
-use Rattle.lookup.proofs.DescentLaws.{nextIn-on}
 
 -- ---- the last nodes, when one more is put below them
 
@@ -66,17 +64,12 @@ module _ (ws : List ℕ) (k : Prefix) (last : ℕ) (d : Descent) (tag link : ℕ
   passed-shared : sharedOn here k ≡ here .tag / 2
   passed-shared = omega (arith, sharedOn-agree here k, p .agrees, p .wider, p .tag-is)
 
-  passed-next : sideOn here k (here .tag / 2) ≡ nextIn k (pastOn d tag link)
-  unfolding sideOn nextIn pastOn
-  passed-next = at (decLt (tag / 2) (k .width))
-    where
-      at : Dec (tag / 2 < k .width) → sideOn here k (here .tag / 2) ≡ nextIn k (pastOn d tag link)
-      at (yes h) =
-          let w : place link / 8 ≡ link = omega arith in
-          let e : here .tag / 2 ≡ tag / 2 = rw (p .tag-is) in
-          rw (e, lt-ltb (tag / 2) (k .width) h, ne-eqb (tag / 2 + 1) (k .width + 1) (λ q. omega arith), w) (sym (p .goes))
-      at (no h) =
-          rw (le-ltb (here .tag / 2) (k .width) (omega (arith, p .tag-is)), eq-eqb (tag / 2 + 1) (k .width + 1) (omega (arith, p .wider)))
+  passed-next : sideOn here k (here .tag / 2) ≡ place link / 8
+  unfolding sideOn
+  passed-next =
+      let w : place link / 8 ≡ link = omega arith in
+      let e : here .tag / 2 ≡ tag / 2 = rw (p .tag-is) in
+      rw (e, lt-ltb (tag / 2) (k .width) (p .wider), w) (sym (p .goes))
 
   passed-held : (z : ℕ) (f : ℕ → ℕ) → z ≡ f (d .next) → cond (odd tag) z (f (d .held)) ≡ f (cond (odd tag) (d .next) (d .held))
   passed-held z f e = at (odd tag)
@@ -85,10 +78,7 @@ module _ (ws : List ℕ) (k : Prefix) (last : ℕ) (d : Descent) (tag link : ℕ
       at true = e
       at false = refl
 
-  on : nextIn k d ≡ d .next / 8
-  on = sym (nextIn-on k d (λ e. omega (arith, p .grown, p .wider)))
-
-  down-past : downOn here k (walkIn ws k last d) ≡ walkIn ws k (pushedOn last d) (pastOn d tag link)
+  down-past : downOn here k (walkIn ws last d) ≡ walkIn ws (pushedOn last d) (pastOn d tag link)
   unfolding downOn walkIn pastOn bestIn zoneIn
   down-past =
       let f = isTable-true (length ws) t in
@@ -102,7 +92,7 @@ module _ (ws : List ℕ) (k : Prefix) (last : ℕ) (d : Descent) (tag link : ℕ
       let same : odd (here .tag) ≡ odd tag = ap odd (sym (p .tag-is)) in
       rw same (λ i.
       record {
-        at = (on ∙ ap (λ (x : ℕ). x / 8) (pushed-first last (d .next) place-most)) i;
+        at = ap (λ (x : ℕ). x / 8) (pushed-first last (d .next) place-most) i;
         up = ap (λ (x : ℕ). x / 8) (pushed-second last (d .next) place-most) i;
         over = ap (λ (x : ℕ). x / 8) (pushed-third last (d .next) place-most) i;
         next = passed-next i;
@@ -111,21 +101,21 @@ module _ (ws : List ℕ) (k : Prefix) (last : ℕ) (d : Descent) (tag link : ℕ
         zone = zone i;
       })
 
-  pub passed-step : Down (tag / 2) (walkIn ws k (pushedOn last d) (pastOn d tag link)) ≡ stepOn ws k (walkIn ws k last d)
+  pub passed-step : Down (tag / 2) (walkIn ws (pushedOn last d) (pastOn d tag link)) ≡ stepOn ws k (walkIn ws last d)
   unfolding walkIn
   passed-step =
       let room = room-roomOf (length ws) (d .next / 8) (omega (arith, p .some-record, s .next-whole)) (omega (arith, p .room, s .next-whole)) in
       let e : tag / 2 ≡ here .tag / 2 = rw (p .tag-is) in
       let grown : d .low ≤ sharedOn here k = omega (arith, passed-shared, p .grown) in
-      sym (stepOn-node ws k (walkIn ws k last d) (d .next / 8) on room
-      ∙ seenOn-down here k (walkIn ws k last d) (omega (arith, p .early)) grown (omega (arith, passed-shared))
+      sym (stepOn-node ws k (walkIn ws last d) (d .next / 8) refl room
+      ∙ seenOn-down here k (walkIn ws last d) (omega (arith, p .early)) grown (omega (arith, passed-shared))
       ∙ rw (down-past, e))
 
 -- ---- the loop of `descend`
 
 pub descended-start : (ws : List ℕ) (k : Prefix) (ts : List ℕ) (root : ℕ) (d : Descent) → root ≡ headerAt ws .root → root < 2 ^ 32 → d ≡ topOf root
     → Descended ws k ts 0 d ts
-unfolding walkIn nextIn bestIn zoneIn walkFrom startOn topOf
+unfolding walkIn bestIn zoneIn walkFrom startOn topOf
 descended-start ws k ts root d e h g =
     let whole : 8 * root / 8 ≡ root = omega arith in
     subst (λ (x : Descent). Descended ws k ts 0 x ts) (sym g)
@@ -133,7 +123,7 @@ descended-start ws k ts root d e h g =
       sound = record { next-whole = omega arith; next-link = omega arith; held-at = record { whole = refl; room = λ ne. absurd (ne refl) } };
       few = omega arith;
       early = omega arith;
-      same = rw (ne-eqb 0 (k .width + 1) (λ q. omega arith), whole, e);
+      same = rw (whole, e);
     })
 
 module _ (ws : List ℕ) (k : Prefix) (ts after : List ℕ) (last : ℕ) (d : Descent) (tag link : ℕ) (t : isTable (length ws) ≡ true)
@@ -153,8 +143,8 @@ module _ (ws : List ℕ) (k : Prefix) (ts after : List ℕ) (last : ℕ) (d : De
         few = omega (arith, h .few, p .grown);
         early = omega (arith, p .early);
         same =
-            walkOn-down ws k (d .n) after (walkIn ws k last d) (walkFrom ws k ts) (stepOn ws k (walkIn ws k last d)) refl (h .same)
-            (omega (arith, h .few, h .early)) (tag / 2) (walkIn ws k (pushedOn last d) (pastOn d tag link))
+            walkOn-down ws k (d .n) after (walkIn ws last d) (walkFrom ws k ts) (stepOn ws k (walkIn ws last d)) refl (h .same)
+            (omega (arith, h .few, h .early)) (tag / 2) (walkIn ws (pushedOn last d) (pastOn d tag link))
             (sym (passed-step ws k last d tag link t (h .sound) p));
       }
 

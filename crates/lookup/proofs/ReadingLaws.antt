@@ -16,7 +16,7 @@ use Rattle.prefix.specs.declared.Prefix.{Prefix}
 use Rattle.records.specs.Layout.{isTable, roomOf, recordAt}
 use Rattle.records.specs.declared.Record.{Record}
 use Rattle.lookup.specs.Walking.{sharedOn, sideOn, downOn, seenOn, stepOn, Survey, afterOn, walkOn, walkFrom, surveyOn, leaveOn}
-use Rattle.lookup.specs.Descending.{nextIn, bestIn, zoneIn, walkIn, Reached}
+use Rattle.lookup.specs.Descending.{bestIn, zoneIn, walkIn, Reached}
 use Rattle.lookup.specs.Reading.{readOf, nodesOf, Walked, readOn}
 use Rattle.lookup.specs.declared.Walk.{Walk}
 use Rattle.lookup.specs.declared.Step.{Step}
@@ -65,12 +65,12 @@ walkOn-alike (suc f) ws k n ts a u o a′ u′ o′ next low best zone =
 
 -- ---- read_path: where the walk comes to v from where a descent stopped, a read has of v what it would of the whole
 
-pub walked-from : (ws : List ℕ) (k : Prefix) (ts after : List ℕ) (d : Descent) (s : Walk) (v : Survey) → Reached ws k ts d after → s ≡ walkIn ws k 0 d
+pub walked-from : (ws : List ℕ) (k : Prefix) (ts after : List ℕ) (d : Descent) (s : Walk) (v : Survey) → Reached ws k ts d after → s ≡ walkIn ws 0 d
     → walkOn (130 - d .n) ws k (d .n) after s ≡ v → Walked (walkFrom ws k ts) (readOf (v .out)) (v .widths)
 unfolding walkIn
 walked-from ws k ts after d s v h e q =
-    let same = walkOn-alike (130 - d .n) ws k (d .n) after _ _ _ _ _ _ (nextIn k d) (d .low) (bestIn ws (d .held)) (zoneIn ws (d .held)) in
-    let from : walkOn (130 - d .n) ws k (d .n) after (walkIn ws k 0 d) ≡ v = ap (walkOn (130 - d .n) ws k (d .n) after) (sym e) ∙ q in
+    let same = walkOn-alike (130 - d .n) ws k (d .n) after _ _ _ _ _ _ (d .next / 8) (d .low) (bestIn ws (d .held)) (zoneIn ws (d .held)) in
+    let from : walkOn (130 - d .n) ws k (d .n) after (walkIn ws 0 d) ≡ v = ap (walkOn (130 - d .n) ws k (d .n) after) (sym e) ∙ q in
     record {
       answer = ap (λ (x : Survey). readOf (x .out)) (sym from) ∙ same .1 ∙ ap (λ (x : Survey). readOf (x .out)) (h .descended .same);
       widths = ap (λ (x : Survey). x .widths) (sym from) ∙ same .0 ∙ ap (λ (x : Survey). x .widths) (h .descended .same);

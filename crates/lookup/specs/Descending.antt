@@ -7,8 +7,7 @@
 --   endsOn ws         the header's last word is no tag of a node that is passed
 --   topOf, pastOn     the descent at the top, and past a node
 --   bestIn, zoneIn    the longest stored prefix so far, by the word at which its record starts
---   nextIn k d        the next link, none where the key's own node has been passed
---   walkIn ws k l d   the walk that a descent stands for, where the last nodes are l
+--   walkIn ws l d     the walk that a descent stands for, where the last nodes are l
 --   Sound ws d        what a descent names are records' first words, or none
 --   Descended         the contract of `trace`: the walk from the top comes to what the walk from there does
 --   Reached           the contract of `descend`
@@ -35,13 +34,13 @@ pub record Held (ws : List ℕ) (at : ℕ) : Type 0 where
   pub whole : Whole at
   pub room : (at ≡ 0 → ⊥) → at + 8 ≤ length ws
 
--- what is known of a node that is passed: it is a prefix of the key, which goes on by the link
+-- what is known of a node that is passed: it is a proper prefix of the key, which goes on by the link
 pub record Passed (ws : List ℕ) (k : Prefix) (at low tag link : ℕ) : Type 0 where
   pub some-record : 0 < at
   pub room : at + 8 ≤ length ws
   pub tag-is : tag ≡ recordAt ws (at / 8) .tag
   pub grown : low ≤ tag / 2
-  pub wider : tag / 2 ≤ k .width
+  pub wider : tag / 2 < k .width
   pub early : tag / 2 < 64
   pub agrees : tag / 2 ≤ agreeOn (recordAt ws (at / 8)) k
   pub goes : link ≡ cond (ltb (tag / 2) (agreeOn (recordAt ws (at / 8)) k)) (recordAt ws (at / 8) .left) (recordAt ws (at / 8) .right)
@@ -66,16 +65,13 @@ bestIn ws at = cond (eqb at 0) 0 (recordAt ws (at / 8) .tag / 2 + 1)
 unfoldable pub zoneIn : List ℕ → ℕ → ℕ
 zoneIn ws at = cond (eqb at 0) 0 (recordAt ws (at / 8) .zone)
 
-unfoldable pub nextIn : Prefix → Descent → ℕ
-nextIn k d = cond (eqb (d .low) (k .width + 1)) 0 (d .next / 8)
-
-unfoldable pub walkIn : List ℕ → Prefix → ℕ → Descent → Walk
-walkIn ws k last d =
+unfoldable pub walkIn : List ℕ → ℕ → Descent → Walk
+walkIn ws last d =
     record {
       at = last % 1048576 / 8;
       up = last / 1048576 % 1048576 / 8;
       over = last / 1099511627776 % 1048576 / 8;
-      next = nextIn k d;
+      next = d .next / 8;
       low = d .low;
       best = bestIn ws (d .held);
       zone = zoneIn ws (d .held);
@@ -90,7 +86,7 @@ pub record Descended (ws : List ℕ) (k : Prefix) (ts : List ℕ) (last : ℕ) (
   pub sound : Sound ws d
   pub few : d .n ≤ d .low
   pub early : d .low ≤ 64
-  pub same : walkOn (130 - d .n) ws k (d .n) after (walkIn ws k last d) ≡ walkFrom ws k ts
+  pub same : walkOn (130 - d .n) ws k (d .n) after (walkIn ws last d) ≡ walkFrom ws k ts
 
 -- a read carries no last nodes: some are those of the walk
 pub record Reached (ws : List ℕ) (k : Prefix) (ts : List ℕ) (d : Descent) (after : List ℕ) : Type 0 where

@@ -1,7 +1,8 @@
-// The upper part of a path walk. The nodes that are prefixes of the key and narrower than 64 bits are
-// passed here, each by one shift of an xor, which says at once that the node is a prefix of the key
-// and on which side the key goes on. Where a record is of another kind the descent stops, and the
-// walk goes on from there with `step_at`, which knows every kind.
+// The upper part of a path walk. The nodes that are proper prefixes of the key and narrower than 64
+// bits are passed here, each by one shift of an xor, which says at once that the node is a prefix of
+// the key and on which side the key goes on. At a record of any other kind, as at the key's own node,
+// the descent stops, and the walk goes on from there with `step_at`, which knows every kind. So each
+// record that is read here is a node of the key's path.
 use crate::Walk;
 use prefix::Prefix;
 ghost use Prim.Native.Nat.{_+_, _/_, _%_, _^_, _≤_, _<_};
@@ -9,7 +10,7 @@ ghost use mathlib.Core.Path.{_≡_};
 ghost use mathlib.Core.Bool.{true, cond};
 ghost use lib.ListN.{length};
 ghost use Rattle.records.specs.Layout.{isTable, headerAt};
-ghost use Rattle.lookup.specs.Descending.{Whole, Held, Turned, endsOn, topOf, pastOn, nextIn, bestIn, zoneIn, walkIn, Sound, Descended, Reached};
+ghost use Rattle.lookup.specs.Descending.{Whole, Held, Turned, endsOn, topOf, pastOn, bestIn, zoneIn, walkIn, Sound, Descended, Reached};
 
 // Where a descent stands, in as few registers as will do. A record goes by the word at which it starts,
 // which is less than 2^20. There is the next one, that of the last stored node (0 for none), how many
@@ -36,7 +37,7 @@ pub enum Turn {
 
 // Descends from the table's root, and writes the widths of the nodes that it passes.
 pub fn descend(table: &[u32], k: Prefix, root: u32, widths: &mut [u8; 129]) -> Descent
-    requires { ⌜ (isTable (length (now table)) ≡ true) × (k .width ≤ 128) × (root ≡ headerAt (now table) .root) ⌝ }
+    requires { ⌜ (isTable (length (now table)) ≡ true) × (root ≡ headerAt (now table) .root) ⌝ }
     ensures { λ d. ⌜ Reached (now (table .entry)) k (now (widths .entry)) d (now (widths .exit)) ⌝ }
 {
     let mut d = top(root);
@@ -60,7 +61,7 @@ pub fn descend(table: &[u32], k: Prefix, root: u32, widths: &mut [u8; 129]) -> D
 
 // The same, with the last nodes.
 pub fn trace(table: &[u32], k: Prefix, root: u32, widths: &mut [u8; 129]) -> Traced
-    requires { ⌜ (isTable (length (now table)) ≡ true) × (k .width ≤ 128) × (root ≡ headerAt (now table) .root) ⌝ }
+    requires { ⌜ (isTable (length (now table)) ≡ true) × (root ≡ headerAt (now table) .root) ⌝ }
     ensures { λ t. ⌜ Descended (now (table .entry)) k (now (widths .entry)) (t .last) (t .to) (now (widths .exit)) ⌝ }
 {
     let mut d = top(root);
@@ -105,10 +106,11 @@ fn ends(table: &[u32]) -> bool
     128 <= records::tag_at(table, 0)
 }
 
-// Whether the record at the word `at` is a node to pass. Both links are read, so that the next record's
-// place waits for a choice and not for another read.
+// Whether the record at the word `at` is a node to pass: never the key's own, below which no node is on
+// the path. Both links are read, so that the next record's place waits for a choice and not for another
+// read.
 fn turn_at(table: &[u32], k: Prefix, at: usize, low: u32) -> Turn
-    requires { ⌜ (isTable (length (now table)) ≡ true) × Whole at × (k .width ≤ 128) × (endsOn (now table) ≡ true) ⌝ }
+    requires { ⌜ (isTable (length (now table)) ≡ true) × Whole at × (endsOn (now table) ≡ true) ⌝ }
     ensures { λ x. ⌜ Turned (now (table .entry)) k at low x ⌝ }
 {
     if table.len() <= at {
@@ -121,7 +123,7 @@ fn turn_at(table: &[u32], k: Prefix, at: usize, low: u32) -> Turn
     if w < low {
         return Turn::Off;
     }
-    if half(k.width + 1) <= w {
+    if half(k.width) <= w {
         return Turn::Off;
     }
     let x = prefix::parting(records::high_at(table, at), prefix::high(k), w);
@@ -166,15 +168,15 @@ fn held_of(stored: bool, at: usize, before: usize) -> usize
 // ---- what a descent stands for
 
 // The walk that goes on from where a descent stopped, with the last nodes.
-pub fn walk_of(table: &[u32], k: Prefix, d: Descent, last: u64) -> Walk
-    requires { ⌜ Sound (now table) d × (k .width ≤ 128) ⌝ }
-    ensures { λ s. ⌜ s ≡ walkIn (now (table .entry)) k last d ⌝ }
+pub fn walk_of(table: &[u32], d: Descent, last: u64) -> Walk
+    requires { ⌜ Sound (now table) d ⌝ }
+    ensures { λ s. ⌜ s ≡ walkIn (now (table .entry)) last d ⌝ }
 {
     Walk {
         at: link_of(last),
         up: link_of(last >> 20),
         over: link_of(last >> 40),
-        next: next_of(k, d),
+        next: (d.next / records::RECORD) as u32,
         low: d.low,
         best: best_at(table, d.held),
         zone: zone_at(table, d.held),
@@ -186,17 +188,6 @@ fn link_of(last: u64) -> u32
     ensures { λ r. ⌜ r ≡ last % 1048576 / 8 ⌝ }
 {
     (last % 1_048_576 / 8) as u32
-}
-
-// The next link; none where the key's own node has been passed.
-fn next_of(k: Prefix, d: Descent) -> u32
-    requires { ⌜ (d .next / 8 < 2 ^ 32) × (k .width ≤ 128) ⌝ }
-    ensures { λ r. ⌜ r ≡ nextIn k d ⌝ }
-{
-    if d.low == k.width + 1 {
-        return 0;
-    }
-    (d.next / records::RECORD) as u32
 }
 
 // The width of the node whose record starts at the word `at`, plus 1; 0 where there is none.

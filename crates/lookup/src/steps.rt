@@ -23,7 +23,7 @@ pub fn walk_path(table: &[u32], k: Prefix, widths: &mut [u8; 129]) -> Surveyed
 {
     let h = records::read_header(table);
     let t = descent::trace(table, k, h.root, widths);
-    let s = descent::walk_of(table, k, t.to, t.last);
+    let s = descent::walk_of(table, t.to, t.last);
     walk_on(table, k, t.to.n, s, widths)
 }
 
@@ -34,7 +34,7 @@ pub fn read_path(table: &[u32], k: Prefix, widths: &mut [u8; 129]) -> Reading
 {
     let h = records::read_header(table);
     let d = descent::descend(table, k, h.root, widths);
-    let s = descent::walk_of(table, k, d, 0);
+    let s = descent::walk_of(table, d, 0);
     reading_of(walk_on(table, k, d.n, s, widths))
 }
 

@@ -22,14 +22,14 @@ right-at-requires c κs =
 
 high-at-requires : tie.Need-high-at-requires
 high-at-requires c κs =
-    let start = c .before .before .before .before .before .before .before .before .before in
+    let start = c .before .before .before .before .before .before .before .before in
     whole-room (start .args .table .now) (start .args .at) (start .pre .0) (start .pre .1) (search needs)
 
 returns-5 : tie.Need-returns-5
 returns-5 c =
     let at-parting = c .before .before in
     let at-half = at-parting .before .before .before .before in
-    let at-right = at-half .before .before .before in
+    let at-right = at-half .before .before in
     let at-tag = at-right .before .before in
     let start = at-tag .before .before .before in
     let room = whole-room (start .args .table .now) (start .args .at) (start .pre .0) (start .pre .1) (search needs) in
@@ -45,7 +45,6 @@ turn-at-spec =
     tag-at-requires
     left-at-requires
     right-at-requires
-    (λ c. search needs)
     (λ c. search needs)
     (λ c κs. search needs)
     (λ c. search needs)

@@ -13,15 +13,15 @@ read-header-requires : tie.Need-read-header-requires
 read-header-requires c κs = isTable-true _ (c .before .pre .0) .least
 
 descend-requires : tie.Need-descend-requires
-descend-requires c κs = (search needs, search needs, header-root _ _ (c .before .read-header .ensures))
+descend-requires c κs = (search needs, header-root _ _ (c .before .read-header .ensures))
 
 walk-of-requires : tie.Need-walk-of-requires
-walk-of-requires c κs = (c .descend .ensures .descended .sound, search needs)
+walk-of-requires c κs = c .descend .ensures .descended .sound
 
 walk-on-requires : tie.Need-walk-on-requires
 walk-on-requires c κs =
     let d = c .before .before .descend .ensures .descended in
-    let e = low-walkIn _ _ _ _ _ (c .before .walk-of .ensures) in
+    let e = low-walkIn _ _ _ _ (c .before .walk-of .ensures) in
     (search needs, omega (arith, d .few, e), omega (arith, d .early, e))
 
 returns : tie.Need-returns
