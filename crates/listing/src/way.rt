@@ -32,15 +32,18 @@ fn seek_from(table: &[u32], k: Prefix, root: u32, stack: &mut [u32; 129]) -> See
     let mut low: u32 = 0;
     let mut depth: usize = 0;
     let mut found: u32 = 0;
-    while next != 0 {
+    loop {
+        if next == 0 {
+            break Seek::At(0, depth, found);
+        }
         let x = sought_at(table, k, next, low);
         match x {
             Sought::Bad => {
-                return Seek::Bad;
+                break Seek::Bad;
             }
             Sought::Done(l, side) => {
                 let o = push(stack, depth, side);
-                return Seek::At(l, o, found + 1);
+                break Seek::At(l, o, found + 1);
             }
             Sought::On(l, w, side) => {
                 depth = push(stack, depth, side);
@@ -50,7 +53,6 @@ fn seek_from(table: &[u32], k: Prefix, root: u32, stack: &mut [u32; 129]) -> See
             }
         }
     }
-    Seek::At(0, depth, found)
 }
 
 // One step of that walk, at the link l.

@@ -5,7 +5,7 @@
 // record that is read here is a node of the key's path.
 use crate::Walk;
 use prefix::Prefix;
-ghost use Prim.Native.Nat.{_+_, _/_, _%_, _^_, _≤_, _<_};
+ghost use Prim.Native.Nat.{_/_, _%_, _^_, _≤_, _<_};
 ghost use mathlib.Core.Path.{_≡_};
 ghost use mathlib.Core.Bool.{true, cond};
 ghost use lib.ListN.{length};
@@ -48,7 +48,7 @@ pub fn descend(table: &[u32], k: Prefix, root: u32, widths: &mut [u8; 129]) -> D
         let x = turn_at(table, k, d.next, d.low);
         match x {
             Turn::Off => {
-                return d;
+                break d;
             }
             Turn::On(tag, link) => {
                 let n = d.n;
@@ -73,7 +73,7 @@ pub fn trace(table: &[u32], k: Prefix, root: u32, widths: &mut [u8; 129]) -> Tra
         let x = turn_at(table, k, d.next, d.low);
         match x {
             Turn::Off => {
-                return Traced { to: d, last };
+                break Traced { to: d, last };
             }
             Turn::On(tag, link) => {
                 let n = d.n;

@@ -22,19 +22,6 @@ loop-holds : tie.Need-loop-holds Inv-loop μ-loop
 unfolding seekFrom
 loop-holds c = (search needs, search needs, refl)
 
-returns : tie.Need-returns Inv-loop μ-loop
-returns c =
-    let at-step = c .before .before in
-    seekOn-bad _ _ _ _ _ _ _ _ _ (at-step .sought-at .ensures) (at-step .before .before .loop .inv .2) (omega arith) (search needs)
-    (c .enum-told .given .1)
-
-returns-2 : tie.Need-returns-2 Inv-loop μ-loop
-returns-2 c =
-    let at-x = c .before .before .before in
-    let at-step = at-x .before .before in
-    seekOn-done _ _ _ _ _ _ _ _ _ (at-step .sought-at .ensures) (at-step .before .before .loop .inv .2) (omega arith) (search needs)
-    _ _ _ _ (at-x .x .given .1) (c .push .ensures)
-
 loop-less : tie.Need-loop-less Inv-loop μ-loop
 loop-less c =
     let at-x = c .before .before .before in
@@ -51,8 +38,21 @@ loop-again c =
           _ _ _ _ _ (at-x .x2 .given .1) (c .push2 .ensures),
     )
 
+returns : tie.Need-returns Inv-loop μ-loop
+returns c = seekOn-end _ _ _ _ _ _ _ _ _ (c .before .loop .inv .2) (search needs)
+
+returns-2 : tie.Need-returns-2 Inv-loop μ-loop
+returns-2 c =
+    let at-step = c .before .before in
+    seekOn-bad _ _ _ _ _ _ _ _ _ (at-step .sought-at .ensures) (at-step .before .before .loop .inv .2) (omega arith) (search needs)
+    (c .enum-told .given .1)
+
 returns-3 : tie.Need-returns-3 Inv-loop μ-loop
-returns-3 c = seekOn-end _ _ _ _ _ _ _ _ _ (c .before .loop .inv .2) (search needs)
+returns-3 c =
+    let at-x = c .before .before .before in
+    let at-step = at-x .before .before in
+    seekOn-done _ _ _ _ _ _ _ _ _ (at-step .sought-at .ensures) (at-step .before .before .loop .inv .2) (omega arith) (search needs)
+    _ _ _ _ (at-x .x .given .1) (c .push .ensures)
 
 pub seek-from-spec : {M : Type 1} → statement M
 seek-from-spec =
@@ -63,14 +63,14 @@ seek-from-spec =
     loop-holds
     (λ c κs. search needs)
     (λ c. search needs)
-    returns
     (λ c. search needs)
     (λ c κs. search needs)
     (λ c. search needs)
-    returns-2
     (λ c. search needs)
     (λ c κs. search needs)
     (λ c. search needs)
     loop-less
     loop-again
+    returns
+    returns-2
     returns-3)

@@ -30,9 +30,6 @@ turn-at-requires : tie.Need-turn-at-requires Inv-loop μ-loop
 turn-at-requires c κs =
     (search needs, c .loop .inv .descended .sound .next-whole, ends-tested _ _ (c .before .before .ends .ensures) (search needs))
 
-returns-2 : tie.Need-returns-2 Inv-loop μ-loop
-returns-2 c = c .before .before .before .loop .inv
-
 cast-widths : tie.Need-cast-widths Inv-loop μ-loop
 cast-widths c =
     let p = turned-passed _ _ _ _ _ _ _ (c .before .before .before .turn-at .ensures) (c .before .x .given .1) in omega (arith, p .early)
@@ -55,6 +52,9 @@ loop-again c =
     let p = turned-passed _ _ _ _ _ _ _ (at-known .before .before .before .turn-at .ensures) (at-known .before .x .given .1) in
     reached-past _ _ _ _ _ _ _ (search needs) p (at-known .before .before .before .before .loop .inv) _ (c .past .ensures)
 
+returns-2 : tie.Need-returns-2 Inv-loop μ-loop
+returns-2 c = c .before .before .before .loop .inv
+
 pub descend-spec : {M : Type 1} → statement M
 descend-spec =
     tie.close
@@ -67,10 +67,10 @@ descend-spec =
     loop-holds
     turn-at-requires
     (λ c. search needs)
-    returns-2
     (λ c. search needs)
     cast-widths
     element-write-widths
     past-requires
     loop-less
-    loop-again)
+    loop-again
+    returns-2)

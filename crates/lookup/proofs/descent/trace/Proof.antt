@@ -29,9 +29,6 @@ turn-at-requires : tie.Need-turn-at-requires Inv-loop μ-loop
 turn-at-requires c κs =
     (search needs, c .loop .inv .sound .next-whole, ends-tested _ _ (c .before .before .ends .ensures) (search needs))
 
-returns-2 : tie.Need-returns-2 Inv-loop μ-loop
-returns-2 c = c .before .before .before .loop .inv
-
 cast-widths : tie.Need-cast-widths Inv-loop μ-loop
 cast-widths c =
     let p = turned-passed _ _ _ _ _ _ _ (c .before .before .before .turn-at .ensures) (c .before .x .given .1) in omega (arith, p .early)
@@ -61,6 +58,9 @@ loop-again c =
     let p = turned-passed _ _ _ _ _ _ _ (at-known .before .before .before .turn-at .ensures) (at-known .before .x .given .1) in
     descended-past _ _ _ _ _ _ _ _ (search needs) p (at-known .before .before .before .before .loop .inv) _ (c .past .ensures)
 
+returns-2 : tie.Need-returns-2 Inv-loop μ-loop
+returns-2 c = c .before .before .before .loop .inv
+
 pub trace-spec : {M : Type 1} → statement M
 trace-spec =
     tie.close
@@ -73,11 +73,11 @@ trace-spec =
     loop-holds
     turn-at-requires
     (λ c. search needs)
-    returns-2
     (λ c. search needs)
     cast-widths
     element-write-widths
     add-last
     past-requires
     loop-less
-    loop-again)
+    loop-again
+    returns-2)
