@@ -63,6 +63,25 @@ pub fn call(what: Call, table: &mut Lent<u32>, width: u32, key: [u32; 4], trail:
     Outcome { number, values: values.get()[..count].to_vec(), trail: bytes.get().to_vec() }
 }
 
+/// What the paper has the call answer for the model's set in a table of so many records, and the trail that it
+/// leaves.
+pub fn wanted(what: Call, model: &impl Model, records: usize, k: Key, trail: &[u8]) -> Outcome {
+    let path: Vec<u8> = model.path(k).iter().map(|node| node.width as u8).collect();
+    let n = path.len() as u32;
+    let (number, values) = match (what, model.get(k)) {
+        (Call::Store(_), None) if model.nodes_with(k) > records => (Refusal::Full.number(), vec![n, 0, 0]),
+        (Call::Store(_), None) => (0, vec![n, 0, 0]),
+        (Call::Store(_), Some(zone)) => (0, vec![n, 1, zone]),
+        (Call::Remove, Some(zone)) | (Call::Fetch, Some(zone)) => (0, vec![n, zone]),
+        (Call::Remove, None) | (Call::Fetch, None) => (Refusal::Absent.number(), vec![n, 0]),
+        (Call::Match, _) => match model.longest(k) {
+            None => (0, vec![n, 0, 0, 0]),
+            Some((width, zone)) => (0, vec![n, 1, width, zone]),
+        },
+    };
+    Outcome { number, values, trail: [&path[..], &trail[path.len()..]].concat() }
+}
+
 pub fn audit(table: &Lent<u32>) -> u32 {
     let mut values: Lent<u32> = Lent::new(1, || 0xA5A5_A5A5);
     assert_eq!(raw::audit(table.get(), values.array()), 0);
@@ -97,32 +116,11 @@ impl<M: Model + Default> Run<M> {
         Run { table, records, model: M::default(), random, every, edits: 0 }
     }
 
-    /// What the paper has the call answer, and the trail that it leaves.
-    fn wanted(&self, what: Call, k: Key, trail: &[u8]) -> Outcome {
-        let path: Vec<u8> = self.model.path(k).iter().map(|node| node.width as u8).collect();
-        let n = path.len() as u32;
-        let old = self.model.get(k);
-        let (number, values) = match (what, old) {
-            (Call::Store(_), None) if self.model.nodes_with(k) > self.records => {
-                (Refusal::Full.number(), vec![n, 0, 0])
-            }
-            (Call::Store(_), None) => (0, vec![n, 0, 0]),
-            (Call::Store(_), Some(zone)) => (0, vec![n, 1, zone]),
-            (Call::Remove, Some(zone)) | (Call::Fetch, Some(zone)) => (0, vec![n, zone]),
-            (Call::Remove, None) | (Call::Fetch, None) => (Refusal::Absent.number(), vec![n, 0]),
-            (Call::Match, _) => match self.model.longest(k) {
-                None => (0, vec![n, 0, 0, 0]),
-                Some((width, zone)) => (0, vec![n, 1, width, zone]),
-            },
-        };
-        Outcome { number, values, trail: [&path[..], &trail[path.len()..]].concat() }
-    }
-
     /// One call, held against the model, which then makes the change too. Gives the call's number.
     pub fn call(&mut self, what: Call, k: Key) -> u32 {
         let room = 129 + self.random.below(8);
         let trail: Vec<u8> = (0..room).map(|_| self.random.word() as u8).collect();
-        let wanted = self.wanted(what, k, &trail);
+        let wanted = wanted(what, &self.model, self.records, k, &trail);
         self.edits += 1;
         let whole = self.edits % self.every == 0;
         let before = if whole { self.table.get().to_vec() } else { Vec::new() };
