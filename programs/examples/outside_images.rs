@@ -48,7 +48,7 @@ fn image(list: &List, epoch: u64) -> Result<Vec<u8>, String> {
             Prefix::new(string.len() as u32, words(string)).ok_or("a prefix of these lists is one")?;
         table.store(prefix, *zone).map_err(|_| "a list of these fits a table")?;
     }
-    Ok(table.image(epoch))
+    table.image(epoch).map_err(|refusal| refusal.to_string())
 }
 
 /// Lines of an address, 32 hex digits, and its zone or `-`, by the longest match of the list.

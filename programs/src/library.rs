@@ -2,7 +2,7 @@
 
 use crate::prefix::Prefix;
 use nalfipode::{
-    image_describe, image_look, image_verify, raw, table_words, Facts, Refusal, Zone, MOST_RECORDS,
+    image_describe, image_look, image_verify, table_words, Facts, NotWritten, Refusal, Zone, MOST_RECORDS,
     TRAIL_BYTES,
 };
 
@@ -42,24 +42,30 @@ impl Table {
         }
     }
 
-    /// Writes the image of what is stored and gives its length; an error has the length needed.
-    pub fn write(&self, epoch: u64, out: &mut [u8]) -> Result<usize, usize> {
-        let mut length = [0];
-        match Refusal::of(raw::image_write(&self.0, epoch, out, &mut length)) {
-            None => Ok(length[0] as usize),
-            Some(Refusal::ShortOut) => Err(length[0] as usize),
-            Some(other) => panic!("{OWN_TABLE}: {other}"),
-        }
+    /// Writes the image of what is stored and gives its length.
+    pub fn write(&mut self, epoch: u64, out: &mut [u8]) -> Result<usize, NotWritten> {
+        nalfipode::Table::open(&mut self.0).image_write(epoch, out)
     }
 
     /// The image of what is stored.
-    pub fn image(&self, epoch: u64) -> Vec<u8> {
-        let mut bytes = Vec::new();
-        while let Err(needed) = self.write(epoch, &mut bytes) {
-            bytes.resize(needed, 0);
-        }
-        bytes
+    pub fn image(&mut self, epoch: u64) -> Result<Vec<u8>, Refusal> {
+        grown(|out| self.write(epoch, out))
     }
+}
+
+/// What a writer writes when it is given the length that it asks for. One that asks again is refused, so that
+/// this ends.
+fn grown(mut write: impl FnMut(&mut [u8]) -> Result<usize, NotWritten>) -> Result<Vec<u8>, Refusal> {
+    let mut bytes = Vec::new();
+    if let Err(first) = write(&mut bytes) {
+        if first.refusal != Refusal::ShortOut {
+            return Err(first.refusal);
+        }
+        bytes.resize(first.needed, 0);
+    }
+    let length = write(&mut bytes).map_err(|second| second.refusal)?;
+    bytes.truncate(length);
+    Ok(bytes)
 }
 
 /// The cell of a position in ten-millionths of a degree; none outside the range.
@@ -120,7 +126,7 @@ mod tests {
         let zero: Prefix = "0/1".parse().unwrap();
         assert_eq!(table.store(zero, 4), Ok(None));
         assert_eq!(table.store(zero, 5), Ok(Some(4)));
-        let image = table.image(0);
+        let image = table.image(0).unwrap();
         assert_eq!(image.len(), 179);
         assert!(verify(&image));
         assert_eq!(look(&image, [0; 4]), Ok(Some(5)));
@@ -147,14 +153,26 @@ mod tests {
     }
 
     #[test]
+    fn a_refused_image_is_no_image() {
+        for number in [1, 6, 9, 10, u32::MAX] {
+            let refusal = Refusal::of(number).unwrap();
+            assert_eq!(grown(|_| Err(NotWritten { refusal, needed: 0 })), Err(refusal));
+        }
+        // what asks for more again and again is not asked for ever
+        let short = |out: &mut [u8]| NotWritten { refusal: Refusal::ShortOut, needed: out.len() + 1 };
+        assert_eq!(grown(|out| Err(short(out))), Err(Refusal::ShortOut));
+        assert_eq!(grown(|out| if out.len() == 1 { Ok(1) } else { Err(short(out)) }), Ok(vec![0]));
+    }
+
+    #[test]
     fn facts_of_images() {
         let mut table = Table::fresh(RECORDS);
-        assert_eq!(facts(&table.image(0)), Some(Facts { nodes: 1, entries: 0, epoch: 0 }));
+        assert_eq!(facts(&table.image(0).unwrap()), Some(Facts { nodes: 1, entries: 0, epoch: 0 }));
         for (prefix, zone) in [("0/2", 0), ("4/2", 70_000), ("6/4", 30), ("FFFFFFFF/32", 30)] {
             table.store(prefix.parse().unwrap(), zone).unwrap();
         }
         for epoch in [0, 1, 256, u64::MAX] {
-            assert_eq!(facts(&table.image(epoch)), Some(Facts { nodes: 35, entries: 3, epoch }));
+            assert_eq!(facts(&table.image(epoch).unwrap()), Some(Facts { nodes: 35, entries: 3, epoch }));
         }
         assert_eq!(facts(b""), None);
     }

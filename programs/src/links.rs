@@ -130,7 +130,7 @@ mod tests {
         for zone in zones::read(list().unwrap().as_bytes()).unwrap() {
             table.store(zone.prefix, zone.number).unwrap();
         }
-        let image = table.image(0);
+        let image = table.image(0).unwrap();
         let grid = grid(&FRAME, LEVEL);
         assert!(grid.len() > 30_000);
         for block in grid {

@@ -4,6 +4,7 @@
 use model::calls::Calls;
 use model::image::{words, BadImage, List};
 use model::suite;
+use nalfipode::Refusal;
 use programs::library::{self, Table, RECORDS};
 use programs::prefix::Prefix;
 
@@ -17,7 +18,10 @@ impl Calls for Library {
             let prefix = Prefix::new(string.len() as u32, words(string)).expect("at most 128 bits");
             assert_eq!(table.store(prefix, *zone), Ok(None));
         }
-        table.write(epoch, out)
+        table.write(epoch, out).map_err(|refused| {
+            assert_eq!(refused.refusal, Refusal::ShortOut);
+            refused.needed
+        })
     }
 
     fn verify(&self, bytes: &[u8]) -> bool {

@@ -36,7 +36,7 @@ fn epoch_of(text: &str) -> Result<u64, String> {
 fn build(list: &str, out: &str, epoch: u64) -> Result<u8, String> {
     let made = zones::read(&maps::read(list)?)
         .and_then(|zones| table(&zones).map(|table| (zones, table)).map_err(|fault| vec![fault]));
-    let (zones, table) = match made {
+    let (zones, mut table) = match made {
         Ok(made) => made,
         Err(faults) => {
             for (line, fault) in faults {
@@ -45,7 +45,7 @@ fn build(list: &str, out: &str, epoch: u64) -> Result<u8, String> {
             return Ok(run::FAULTS);
         }
     };
-    let image = table.image(epoch);
+    let image = table.image(epoch).map_err(|refusal| format!("the image writer refuses: {refusal}"))?;
     maps::write(out, &image)?;
     let numbers: BTreeSet<u32> = zones.iter().map(|z| z.number).collect();
     let (prefixes, numbers, bytes) = (zones.len(), numbers.len(), image.len());
