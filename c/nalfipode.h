@@ -14,9 +14,9 @@
  *
  * A slice of memory is passed as two arguments, a pointer and a number of elements (not bytes), in this order,
  * as the compiler of the library passes a reference to a slice. An array of fixed size is passed as a pointer
- * alone. No pointer may be null, each is aligned as its type is, and what is lent for writing overlaps nothing
- * else that is lent. Where the number of elements is 0 the pointer may be any that is aligned and not null.
- * Nothing else is asked: any words and any numbers are safe.
+ * alone. No pointer may be null, each is aligned as its type is, and what is lent to one call does not overlap:
+ * table, trail, values, output and key are distinct memory. Where the number of elements is 0 the pointer may be
+ * any that is aligned and not null. Nothing else is asked: any words and any numbers are safe.
  *
  * A prefix is a width of 0 to 128 and four words. Bit 1 is the highest bit of word 0, and every bit after the
  * width is zero. */
