@@ -1,6 +1,8 @@
 //! A position as people write it: decimal degrees with a point, or ten-millionths of a degree as whole
 //! numbers. Every step is in whole numbers, so that no fix is moved by rounding.
 
+use crate::counted::counted;
+
 /// Longitude and latitude in ten-millionths of a degree.
 #[derive(Clone, Copy, Debug, PartialEq, Eq)]
 pub struct Position {
@@ -75,7 +77,10 @@ pub fn position(line: &str) -> Result<Position, String> {
     };
     match fields[..] {
         [longitude, latitude] => pair(longitude, latitude),
-        _ => Err(format!("{} fields where longitude and latitude are wanted", fields.len())),
+        _ => {
+            let fields = counted(fields.len(), "field", "fields");
+            Err(format!("{fields} where longitude and latitude are wanted"))
+        }
     }
 }
 
@@ -114,7 +119,7 @@ mod tests {
     #[test]
     fn refused() {
         for (line, message) in [
-            ("1.0", "1 fields where longitude and latitude are wanted"),
+            ("1.0", "1 field where longitude and latitude are wanted"),
             ("1.0 2.0 3.0", "3 fields where longitude and latitude are wanted"),
             ("1.0,,2.0", "3 fields where longitude and latitude are wanted"),
             ("1.0 2.0, 3.0", "longitude \"1.0 2.0\" is not a number"),

@@ -1,5 +1,6 @@
 //! A prefix as people write it: hex digits of its leading bits, a slash, and its width.
 
+use crate::counted::counted;
 use std::fmt;
 use std::str::FromStr;
 
@@ -77,7 +78,8 @@ impl FromStr for Prefix {
         }
         let needed = digits_of(width);
         if digits.len() < needed {
-            return Err(format!("width {width} needs at least {needed} hex digits, not {}", digits.len()));
+            let needed = counted(needed, "hex digit", "hex digits");
+            return Err(format!("width {width} needs at least {needed}, not {}", digits.len()));
         }
         let bits = u128::from_str_radix(&format!("{digits:0<32}"), 16).map_err(|e| e.to_string())?;
         Prefix::new(width, words(bits))
@@ -126,6 +128,7 @@ mod tests {
             ("C0/129", "width 129 is above 128"),
             ("C0/99999999999999999999", "width 99999999999999999999 is above 128"),
             ("C0/9", "width 9 needs at least 3 hex digits, not 2"),
+            ("/4", "width 4 needs at least 1 hex digit, not 0"),
             ("C0/1", "\"C0/1\" has a bit set after the first 1"),
             ("1/0", "\"1/0\" has a bit set after the first 0"),
             ("0x1/4", "\"0x1\" is not a row of hex digits"),

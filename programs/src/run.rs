@@ -1,29 +1,30 @@
-//! Arguments, messages and exit statuses, alike in all programs: 0 when all is well, 1 where the input has
-//! faults, 2 where nothing could be done (wrong arguments, a file that cannot be read or written, a map that
-//! is refused).
+//! Messages and exit statuses, alike in all programs: 0 when all is well, 1 where the input has faults, 2
+//! where it could not be done (wrong arguments, a file that cannot be read, output that cannot be written, a
+//! map that is refused).
 
+use crate::arguments::{Asked, Given, Program};
+use crate::standard;
 use std::io::{self, Write};
 use std::process::ExitCode;
 
 pub const FAULTS: u8 = 1;
-pub const NOTHING_DONE: u8 = 2;
+pub const NOT_DONE: u8 = 2;
 
-/// Runs a program: `job` takes the arguments and gives the exit status, or a message for standard error; an
+/// Runs a program: `job` takes what was given and gives the exit status, or a message for standard error; an
 /// empty message stands for wrong arguments.
-pub fn main(usage: &str, job: impl FnOnce(&[&str]) -> Result<u8, String>) -> ExitCode {
-    let arguments: Vec<String> =
-        std::env::args_os().skip(1).map(|a| a.to_string_lossy().into_owned()).collect();
-    let arguments: Vec<&str> = arguments.iter().map(String::as_str).collect();
-    if matches!(arguments[..], ["--help" | "-h"]) {
-        return match say(usage) {
-            Ok(()) => ExitCode::SUCCESS,
-            Err(message) => trouble(&message),
-        };
-    }
-    match job(&arguments) {
+pub fn main(program: &Program, job: impl FnOnce(&Given) -> Result<u8, String>) -> ExitCode {
+    let done = match program.asked(std::env::args_os().skip(1)) {
+        Ok(Asked::Help) => say(program.usage).map(|()| 0),
+        Ok(Asked::Version) => say(&format!("{} {}", program.name, env!("CARGO_PKG_VERSION"))).map(|()| 0),
+        Ok(Asked::Work(given)) => job(&given),
+        Err(message) => Err(message),
+    };
+    match done {
         Ok(status) => ExitCode::from(status),
-        Err(message) if message.is_empty() => trouble(usage),
-        Err(message) => trouble(&message),
+        Err(message) => {
+            warn(if message.is_empty() { program.usage } else { &message });
+            ExitCode::from(NOT_DONE)
+        }
     }
 }
 
@@ -34,15 +35,10 @@ pub fn wrong_arguments<T>() -> Result<T, String> {
 
 /// Prints a line on standard output.
 pub fn say(line: &str) -> Result<(), String> {
-    writeln!(io::stdout(), "{line}").map_err(|e| format!("standard output: {e}"))
+    standard::write(format!("{line}\n").as_bytes()).map_err(|e| format!("standard output: {e}"))
 }
 
 /// Prints a line on standard error; where even that fails there is no one to tell.
 pub fn warn(line: &str) {
     let _ = writeln!(io::stderr(), "{line}");
-}
-
-fn trouble(message: &str) -> ExitCode {
-    warn(message);
-    ExitCode::from(NOTHING_DONE)
 }

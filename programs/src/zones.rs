@@ -6,7 +6,7 @@
 //! ```
 
 use crate::library;
-use crate::lines::said;
+use crate::lines::{said, without_mark};
 use crate::position::pair;
 use crate::prefix::{address, width_of, Prefix};
 use std::collections::BTreeMap;
@@ -28,7 +28,7 @@ pub fn read(text: &[u8]) -> Result<Vec<Zone>, Vec<Fault>> {
     let mut zones = Vec::new();
     let mut faults = Vec::new();
     let mut seen = BTreeMap::new();
-    for (line, bytes) in (1..).zip(text.split(|b| *b == b'\n')) {
+    for (line, bytes) in (1..).zip(without_mark(text).split(|b| *b == b'\n')) {
         match said(bytes).and_then(|text| text.map(zone).transpose()) {
             Ok(None) => {}
             Ok(Some((prefix, number, name))) => match *seen.entry(prefix).or_insert(line) {
@@ -78,8 +78,9 @@ mod tests {
 
     #[test]
     fn good_lines() {
-        let text = b"# a course\n\nC0000000/20 7 seventh hole # outline\r\ncell 0.0 0.0 4 8\n0/0 4294967295";
-        let zones = read(text).unwrap();
+        let text = "# a course\n\nC0000000/20 7 seventh hole # outline\r\ncell 0.0 0.0 4 8\n0/0 4294967295";
+        let zones = read(text.as_bytes()).unwrap();
+        assert_eq!(read(format!("\u{FEFF}{text}").as_bytes()).as_ref(), Ok(&zones));
         let lines: Vec<String> =
             zones.iter().map(|z| format!("{} {} {} {}", z.line, z.prefix, z.number, z.name)).collect();
         assert_eq!(lines, ["3 C0000/20 7 seventh hole", "4 C/4 8 ", "5 0/0 4294967295 "]);

@@ -52,6 +52,17 @@ fn four_quarters_as_png() {
 }
 
 #[test]
+fn one_pixel() {
+    let folder = folder("one");
+    let drawn =
+        folder.run(PROGRAM, &arguments("map.mmdb", ["-1.0", "-2.0", "2.0", "4.0"], "1", "1", "out.ppm"));
+    assert_eq!(drawn, ran(0, "zone 7: 1 pixel, #3E7CB8\n", ""));
+    let drawn =
+        folder.run_with(PROGRAM, &arguments("-", GLOBE, "1", "1", "out.ppm"), &folder.read("map.mmdb"));
+    assert_eq!(drawn, ran(0, "zone 7: 1 pixel, #3E7CB8\n", ""));
+}
+
+#[test]
 fn sample_course() {
     let folder = Folder::new("draw_sample_course");
     let links = folder.run(env!("CARGO_BIN_EXE_links"), &[]);
@@ -69,10 +80,11 @@ fn sample_course() {
 fn refused() {
     let folder = folder("refused");
     let frame = "WEST must be west of EAST, and SOUTH south of NORTH\n";
-    let rows: [([&str; 4], &str, &str, &str, &str); 10] = [
+    let rows: [([&str; 4], &str, &str, &str, &str); 11] = [
         (["1.0", "0.0", "1.0", "1.0"], "4", "2", "out.ppm", frame),
         (["0.0", "1.0", "1.0", "0.5"], "4", "2", "out.ppm", frame),
         (["x", "0.0", "1.0", "1.0"], "4", "2", "out.ppm", "longitude \"x\" is not a number\n"),
+        (["-.5", "0.0", "1.0", "1.0"], "4", "2", "out.ppm", "longitude \"-.5\" is not a number\n"),
         (["0.0", "0.0", "1.0", "90.5"], "4", "2", "out.ppm", "latitude 90.5 is outside -90 to 90 degrees\n"),
         (GLOBE, "0", "2", "out.ppm", "width \"0\" is not a whole number from 1 to 4096\n"),
         (GLOBE, "4", "4097", "out.ppm", "height \"4097\" is not a whole number from 1 to 4096\n"),

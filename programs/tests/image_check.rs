@@ -9,19 +9,20 @@ const PROGRAM: &str = env!("CARGO_BIN_EXE_image_check");
 fn yes() {
     let folder = Folder::new("image_check_yes");
     for (zones, epoch, answer) in [
-        ("", "0", "yes, 1 nodes, 0 entries, epoch 0\n"),
-        ("0/1 5", "0", "yes, 1 nodes, 1 entries, epoch 0\n"),
+        ("", "0", "yes, 1 node, 0 entries, epoch 0\n"),
+        ("0/1 5", "0", "yes, 1 node, 1 entry, epoch 0\n"),
         ("0/2 10\n4/2 20\n6/4 30", "256", "yes, 4 nodes, 3 entries, epoch 256\n"),
         // a hidden number has no entry
-        ("/0 7\n0/1 5\n8/1 6", "1", "yes, 1 nodes, 2 entries, epoch 1\n"),
+        ("/0 7\n0/1 5\n8/1 6", "1", "yes, 1 node, 2 entries, epoch 1\n"),
         (
             "00000000000000000000000000000000/128 0",
             "18446744073709551615",
-            "yes, 128 nodes, 1 entries, epoch 18446744073709551615\n",
+            "yes, 128 nodes, 1 entry, epoch 18446744073709551615\n",
         ),
     ] {
         folder.map("map.mmdb", zones, epoch);
         assert_eq!(folder.run(PROGRAM, &["map.mmdb"]), ran(0, answer, ""));
+        assert_eq!(folder.run_with(PROGRAM, &["-"], &folder.read("map.mmdb")), ran(0, answer, ""));
     }
 }
 

@@ -48,7 +48,7 @@ fn bad_lines_are_told_and_the_others_answered() {
                fixes.txt:3: longitude 181.0 is outside -180 to 180 degrees\n\
                fixes.txt:4: longitude 1.00000001 has more than seven decimals\n\
                fixes.txt:5: 0.5 and 1: only one of the two has a decimal point\n\
-               fixes.txt:6: 1 fields where longitude and latitude are wanted\n\
+               fixes.txt:6: 1 field where longitude and latitude are wanted\n\
                fixes.txt:7: not plain text (UTF-8)\n";
     let out = "C000000000000000 0\nF000000000000000 7\n";
     let folder = folder("bad_lines");
@@ -56,6 +56,46 @@ fn bad_lines_are_told_and_the_others_answered() {
     assert_eq!(folder.run(PROGRAM, &["map.mmdb", "fixes.txt"]), ran(1, out, err));
     let err = err.replace("fixes.txt", "standard input");
     assert_eq!(folder.run_with(PROGRAM, &["map.mmdb"], fixes), ran(1, out, &err));
+}
+
+#[test]
+fn twenty_faults_are_told() {
+    let folder = folder("twenty");
+    for (faults, end) in
+        [(20, ""), (21, "fixes.txt: and 1 more fault\n"), (33, "fixes.txt: and 13 more faults\n")]
+    {
+        let bad = "1.0\n".repeat(faults);
+        folder.write("fixes.txt", format!("{bad}0.0 0.0\n"));
+        let told: String = (1..=20)
+            .map(|line| format!("fixes.txt:{line}: 1 field where longitude and latitude are wanted\n"))
+            .collect();
+        let answered = folder.run(PROGRAM, &["map.mmdb", "fixes.txt"]);
+        assert_eq!(answered, ran(1, "C000000000000000 0\n", &(told + end)));
+    }
+}
+
+#[test]
+fn a_byte_order_mark_before_the_fixes() {
+    let folder = folder("mark");
+    let fixes = "\u{FEFF}0.0 0.0\n";
+    folder.write("fixes.txt", fixes);
+    let answered = ran(0, "C000000000000000 0\n", "");
+    assert_eq!(folder.run(PROGRAM, &["map.mmdb", "fixes.txt"]), answered);
+    assert_eq!(folder.run_with(PROGRAM, &["map.mmdb"], fixes.as_bytes()), answered);
+    let later = folder.run_with(PROGRAM, &["map.mmdb"], "0.0 0.0\n\u{FEFF}1.0 1.0\n".as_bytes());
+    let err = "standard input:2: longitude \"\u{FEFF}1.0\" is not a number\n";
+    assert_eq!(later, ran(1, "C000000000000000 0\n", err));
+}
+
+#[test]
+fn a_map_from_standard_input() {
+    let folder = folder("map_from_input");
+    folder.write("fixes.txt", "0.0 0.0\n");
+    let answered = folder.run_with(PROGRAM, &["-", "fixes.txt"], &folder.read("map.mmdb"));
+    assert_eq!(answered, ran(0, "C000000000000000 0\n", ""));
+    let err = "standard input cannot be both the map and the fixes\n";
+    assert_eq!(folder.run(PROGRAM, &["-"]), ran(2, "", err));
+    assert_eq!(folder.run(PROGRAM, &["-", "-"]), ran(2, "", err));
 }
 
 #[test]
@@ -87,16 +127,6 @@ fn missing_files() {
     assert_eq!(is_folder, ran(2, "", ".: cannot be read: Is a directory (os error 21)\n"));
     let is_folder = folder.run(PROGRAM, &["map.mmdb", "."]);
     assert_eq!(is_folder, ran(2, "", ".: cannot be read: Is a directory (os error 21)\n"));
-}
-
-/// Answers that cannot be written are not lost in silence.
-#[test]
-fn no_room_for_the_answers() {
-    let folder = folder("no_room");
-    folder.write("fixes.txt", "0.0 0.0\n");
-    let command = format!("'{PROGRAM}' map.mmdb fixes.txt > /dev/full");
-    let err = "standard output: No space left on device (os error 28)\n";
-    assert_eq!(folder.run("sh", &["-c", &command]), ran(2, "", err));
 }
 
 #[test]

@@ -10,7 +10,7 @@ fn the_papers_example() {
     let folder = Folder::new("zonemap_example");
     folder.write("zones.txt", "# one prefix, bit 0\n0/1 5\n");
     let made = folder.run(PROGRAM, &["zones.txt", "out.mmdb"]);
-    assert_eq!(made, ran(0, "out.mmdb: 1 prefixes, 1 zones, 179 bytes, epoch 0\n", ""));
+    assert_eq!(made, ran(0, "out.mmdb: 1 prefix, 1 zone, 179 bytes, epoch 0\n", ""));
     let expected = [
         b"\x00\x00\x11\x00\x00\x01\0\0\0\0\0\0\0\0\0\0\0\0\0\0\0\0\xC1\x05\xAB\xCD\xEFMaxMind.com".as_slice(),
         b"\xE7\x4Anode_count\xC1\x01\x4Brecord_size\xA1\x18\x4Aip_version\xA1\x06\x4Ddatabase_type",
@@ -22,11 +22,50 @@ fn the_papers_example() {
 }
 
 #[test]
-fn no_zones_and_the_largest_epoch() {
+fn a_list_of_no_zone() {
     let folder = Folder::new("zonemap_empty");
-    folder.write("zones.txt", "");
-    let made = folder.run(PROGRAM, &["zones.txt", "out.mmdb", "18446744073709551615"]);
-    assert_eq!(made, ran(0, "out.mmdb: 0 prefixes, 0 zones, 185 bytes, epoch 18446744073709551615\n", ""));
+    folder.write("out.mmdb", "an older map");
+    let err = "zones.txt: it has no zone, so nothing is written; --empty asks for a map of none\n";
+    for zones in ["", "# a comment\n\n", "\u{FEFF}"] {
+        folder.write("zones.txt", zones);
+        assert_eq!(folder.run(PROGRAM, &["zones.txt", "out.mmdb"]), ran(1, "", err));
+        assert_eq!(folder.read("out.mmdb"), b"an older map");
+    }
+    let err = err.replace("zones.txt", "standard input");
+    assert_eq!(folder.run(PROGRAM, &["-", "other.mmdb"]), ran(1, "", &err));
+    assert_eq!(folder.names(), ["out.mmdb", "zones.txt"]);
+    let epoch = "18446744073709551615";
+    let made = folder.run(PROGRAM, &["--empty", "zones.txt", "out.mmdb", epoch]);
+    let out = format!("out.mmdb: 0 prefixes, 0 zones, 185 bytes, epoch {epoch}\n");
+    assert_eq!(made, ran(0, &out, ""));
+    assert_eq!(folder.read("out.mmdb").len(), 185);
+}
+
+#[test]
+fn a_list_after_a_byte_order_mark_and_from_standard_input() {
+    let folder = Folder::new("zonemap_mark");
+    folder.write("zones.txt", "\u{FEFF}0/1 5\n");
+    let made = ran(0, "out.mmdb: 1 prefix, 1 zone, 179 bytes, epoch 0\n", "");
+    assert_eq!(folder.run(PROGRAM, &["zones.txt", "out.mmdb"]), made);
+    assert_eq!(folder.run_with(PROGRAM, &["-", "out.mmdb"], b"\xEF\xBB\xBF0/1 5"), made);
+    // anywhere else a mark is no blank
+    folder.write("zones.txt", "0/1 5\n\u{FEFF}8/1 5\n");
+    let err = "zones.txt:2: \"\u{FEFF}8\" is not a row of hex digits\n";
+    assert_eq!(folder.run(PROGRAM, &["zones.txt", "out.mmdb"]), ran(1, "", err));
+}
+
+#[test]
+fn twenty_faults_are_told() {
+    let folder = Folder::new("zonemap_twenty");
+    for (faults, end) in
+        [(20, ""), (21, "zones.txt: and 1 more fault\n"), (33, "zones.txt: and 13 more faults\n")]
+    {
+        folder.write("zones.txt", "0/1\n".repeat(faults));
+        let told: String =
+            (1..=20).map(|line| format!("zones.txt:{line}: a line is: HEX/WIDTH ZONE [NAME]\n")).collect();
+        assert_eq!(folder.run(PROGRAM, &["zones.txt", "out.mmdb"]), ran(1, "", &(told + end)));
+    }
+    assert_eq!(folder.names(), ["zones.txt"]);
 }
 
 #[test]
@@ -85,13 +124,17 @@ fn files_that_cannot_be_read_or_written() {
     assert_eq!(folder.run(PROGRAM, &["none.txt", "out.mmdb"]), ran(2, "", &err));
     let err = format!("none/out.mmdb: cannot be written: {NO_SUCH_FILE}\n");
     assert_eq!(folder.run(PROGRAM, &["zones.txt", "none/out.mmdb"]), ran(2, "", &err));
-    assert_eq!(folder.run(PROGRAM, &["zones.txt", ".."]), ran(2, "", "..: no name of a file\n"));
+    for (out, why) in [
+        ("", "it is no name of a file"),
+        ("new/", "it is no name of a file"),
+        ("..", "it is a folder"),
+        ("zones.txt/out", "Not a directory (os error 20)"),
+        ("-", "standard output is /dev/stdout"),
+    ] {
+        let err = format!("{out}: cannot be written: {why}\n");
+        assert_eq!(folder.run(PROGRAM, &["zones.txt", out]), ran(2, "", &err));
+    }
     assert_eq!(folder.names(), ["zones.txt"]);
-    // a folder of that name cannot be replaced by a file; nothing is left beside it
-    std::fs::create_dir_all(concat!(env!("CARGO_TARGET_TMPDIR"), "/zonemap_files/taken/full")).unwrap();
-    let made = folder.run(PROGRAM, &["zones.txt", "taken"]);
-    assert_eq!(made, ran(2, "", "taken: cannot be written: Is a directory (os error 21)\n"));
-    assert_eq!(folder.names(), ["taken", "zones.txt"]);
 }
 
 #[test]
@@ -99,7 +142,7 @@ fn usage_and_epochs() {
     let folder = Folder::new("zonemap_usage");
     let Ran { status, out: usage, err } = folder.run(PROGRAM, &["--help"]);
     assert_eq!((status, &*err), (0, ""));
-    assert!(usage.starts_with("usage: zonemap ZONES.txt OUT.mmdb [EPOCH]\n"));
+    assert!(usage.starts_with("usage: zonemap [--empty] ZONES.txt OUT.mmdb [EPOCH]\n"));
     assert_eq!(folder.run(PROGRAM, &["zones.txt"]), ran(2, "", &usage));
     for epoch in ["", "-1", "+1", "18446744073709551616", "now"] {
         let err = format!("epoch \"{epoch}\" is not a whole number from 0 to 18446744073709551615\n");

@@ -1,9 +1,10 @@
 //! Runs a program and gives everything that it printed.
 #![allow(dead_code)] // each test file uses a part
 
+use std::ffi::OsStr;
 use std::fs;
 use std::io::Write;
-use std::path::PathBuf;
+use std::path::{Path, PathBuf};
 use std::process::{Command, Stdio};
 
 /// What a run came to.
@@ -29,18 +30,22 @@ impl Folder {
         Folder(path)
     }
 
-    pub fn write(&self, name: &str, bytes: impl AsRef<[u8]>) {
-        fs::write(self.0.join(name), bytes).unwrap();
+    pub fn path(&self, name: impl AsRef<Path>) -> PathBuf {
+        self.0.join(name)
     }
 
-    pub fn read(&self, name: &str) -> Vec<u8> {
-        fs::read(self.0.join(name)).unwrap()
+    pub fn write(&self, name: impl AsRef<Path>, bytes: impl AsRef<[u8]>) {
+        fs::write(self.path(name), bytes).unwrap();
+    }
+
+    pub fn read(&self, name: impl AsRef<Path>) -> Vec<u8> {
+        fs::read(self.path(name)).unwrap()
     }
 
     /// The names of all files there, in order.
     pub fn names(&self) -> Vec<String> {
-        let mut names: Vec<String> =
-            fs::read_dir(&self.0).unwrap().map(|e| e.unwrap().file_name().into_string().unwrap()).collect();
+        let name = |entry: fs::DirEntry| entry.file_name().to_string_lossy().into_owned();
+        let mut names: Vec<String> = fs::read_dir(&self.0).unwrap().map(|e| name(e.unwrap())).collect();
         names.sort();
         names
     }
@@ -49,7 +54,17 @@ impl Folder {
         self.run_with(program, arguments, b"")
     }
 
+    /// A line of the shell.
+    pub fn shell(&self, line: &str) -> Ran {
+        self.run("sh", &["-c", line])
+    }
+
     pub fn run_with(&self, program: &str, arguments: &[&str], input: &[u8]) -> Ran {
+        let arguments: Vec<&OsStr> = arguments.iter().map(OsStr::new).collect();
+        self.run_on(program, &arguments, input)
+    }
+
+    pub fn run_on(&self, program: &str, arguments: &[&OsStr], input: &[u8]) -> Ran {
         let mut child = Command::new(program)
             .args(arguments)
             .current_dir(&self.0)
@@ -71,7 +86,7 @@ impl Folder {
     /// A map of a list of zones, built by `zonemap`.
     pub fn map(&self, name: &str, zones: &str, epoch: &str) {
         self.write("zones.txt", zones);
-        let made = self.run(env!("CARGO_BIN_EXE_zonemap"), &["zones.txt", name, epoch]);
+        let made = self.run(env!("CARGO_BIN_EXE_zonemap"), &["--empty", "zones.txt", name, epoch]);
         assert_eq!((made.status, &*made.err), (0, ""));
     }
 }
