@@ -33,14 +33,11 @@ impl Output {
     pub fn of(name: &OsStr, input: &Input) -> Result<Output, String> {
         let printed = name.to_string_lossy().into_owned();
         let path = Path::new(name);
-        let way = if name == "-" {
-            Err(other("standard output is /dev/stdout"))
-        } else {
-            match fs::metadata(path) {
-                Ok(metadata) => known(path, &metadata, input),
-                Err(e) if e.kind() == ErrorKind::NotFound => unborn(path).map(Way::Replaced),
-                Err(e) => Err(e),
-            }
+        let way = match fs::metadata(path) {
+            _ if name == "-" => Err(other("standard output is /dev/stdout")),
+            Ok(metadata) => known(path, &metadata, input),
+            Err(e) if e.kind() == ErrorKind::NotFound => unborn(path).map(Way::Replaced),
+            Err(e) => Err(e),
         };
         match way {
             Ok(way) => Ok(Output { name: printed, way }),
@@ -51,21 +48,15 @@ impl Output {
     /// Writes it. `check` is asked about the bytes as they are read back, or, where that cannot be, before
     /// they are written.
     pub fn write(&self, bytes: &[u8], check: impl Fn(&[u8]) -> bool) -> Result<(), String> {
-        let straight = |write: &dyn Fn() -> io::Result<()>| {
-            if check(bytes) {
-                write()
-            } else {
-                Err(other("it is not what was to be written"))
+        let done = match &self.way {
+            Way::Replaced(path) => replace(path, bytes, check),
+            _ if !check(bytes) => Err(other("it is not what was to be written")),
+            Way::Standard => standard::write(bytes),
+            Way::Straight(path) => {
+                File::options().write(true).open(path).and_then(|mut file| file.write_all(bytes))
             }
         };
-        match &self.way {
-            Way::Standard => straight(&|| standard::write(bytes)),
-            Way::Straight(path) => {
-                straight(&|| File::options().write(true).open(path).and_then(|mut f| f.write_all(bytes)))
-            }
-            Way::Replaced(path) => replace(path, bytes, &check),
-        }
-        .map_err(|e| unwritten(&self.name, e))
+        done.map_err(|e| unwritten(&self.name, e))
     }
 
     /// Prints a line about it on standard output, or on standard error where the bytes themselves go there.
@@ -90,10 +81,12 @@ fn known(path: &Path, metadata: &Metadata, input: &Input) -> io::Result<Way> {
     if !kind.is_char_device() && input.is(metadata, path) {
         return Err(other(&format!("it is the input, {}", input.name)));
     }
-    if standard::output()
-        .and_then(|out| out.metadata())
-        .map_or(false, |out| Which::of(&out) == Which::of(metadata))
-    {
+    let standard = standard::output().and_then(|out| out.metadata());
+    if standard.map_or(false, |out| Which::of(&out) == Which::of(metadata)) {
+        // bytes after others would be no map, and those before them none any more
+        if kind.is_file() && metadata.len() > 0 {
+            return Err(other("it is standard output, and not empty"));
+        }
         Ok(Way::Standard)
     } else if kind.is_file() {
         fs::canonicalize(path).map(Way::Replaced)

@@ -69,7 +69,7 @@ impl Drop for Part {
 /// The name of a file's part: of one length, so that it is never longer than a name may be.
 fn place(path: &Path) -> PathBuf {
     let name = path.file_name().map_or(&b""[..], |name| name.as_bytes());
-    // FNV-1a; where two names have one sum their parts only wait for each other
+    // FNV-1a; of two names with one sum only one is written at a time
     let sum = name.iter().fold(0xCBF2_9CE4_8422_2325u64, |sum, byte| {
         (sum ^ u64::from(*byte)).wrapping_mul(0x0000_0100_0000_01B3)
     });

@@ -159,6 +159,9 @@ fn standard_output_as_the_output() {
     assert_eq!(folder.read("out.mmdb"), map);
     assert_eq!(run("out.mmdb > out.mmdb"), line("out.mmdb"));
     assert_eq!(folder.read("out.mmdb"), map);
+    let err = "out.mmdb: cannot be written: it is standard output, and not empty\n";
+    assert_eq!(run("out.mmdb >> out.mmdb"), ran(2, "", err));
+    assert_eq!(folder.read("out.mmdb"), map);
     let closed = ran(2, "", "standard output: it is closed\n");
     assert_eq!(run("stdout >&-"), closed);
     let err = "stdout: cannot be written: No space left on device (os error 28)\n";
