@@ -117,3 +117,55 @@ fn names(place: &Path, file: &File) -> io::Result<bool> {
 fn at_work() -> io::Error {
     io::Error::new(ErrorKind::Other, "another run is writing it")
 }
+
+#[cfg(test)]
+mod tests {
+    use super::*;
+
+    /// A folder of its own with an older file; what is in it is given by `files`.
+    fn older(name: &str) -> PathBuf {
+        let folder = std::env::temp_dir().join(format!("nalfipode-{name}-{}", std::process::id()));
+        fs::create_dir_all(&folder).unwrap();
+        fs::write(folder.join("file"), "older").unwrap();
+        folder
+    }
+
+    fn files(folder: &Path) -> Vec<String> {
+        let name = |entry: io::Result<fs::DirEntry>| entry.unwrap().file_name().into_string().unwrap();
+        fs::read_dir(folder).unwrap().map(name).collect()
+    }
+
+    #[test]
+    fn what_the_check_refuses_goes_away() {
+        let folder = older("refused");
+        let path = folder.join("file");
+        let refused = replace(&path, b"newer", |again| again != b"newer").unwrap_err();
+        assert_eq!(refused.to_string(), "read back, it is not what was to be written");
+        assert_eq!((fs::read(&path).unwrap(), files(&folder)), (b"older".to_vec(), vec!["file".to_string()]));
+        fs::remove_dir_all(&folder).unwrap();
+    }
+
+    #[test]
+    fn one_writes_at_a_time() {
+        let folder = older("twice");
+        let path = folder.join("file");
+        let seen = |again: &[u8]| {
+            // at this time the part has no name of a file yet, and is locked
+            let second = replace(&path, b"second", |_| true).unwrap_err();
+            assert_eq!(second.to_string(), "another run is writing it");
+            assert_eq!((fs::read(&path).unwrap(), files(&folder).len()), (b"older".to_vec(), 2));
+            replace(&folder.join("other"), b"other", |_| true).unwrap();
+            again == b"first"
+        };
+        replace(&path, b"first", seen).unwrap();
+        assert_eq!((fs::read(&path).unwrap(), files(&folder).len()), (b"first".to_vec(), 2));
+        fs::remove_dir_all(&folder).unwrap();
+    }
+
+    #[test]
+    fn names_of_parts() {
+        assert_eq!(place(Path::new("a/b")), Path::new("a/.nalfipode-af63df4c8601f1a5.part"));
+        assert_eq!(place(Path::new(&"n".repeat(255))).as_os_str().len(), 32);
+        assert_ne!(place(Path::new("b")), place(Path::new("c")));
+    }
+}

@@ -247,6 +247,18 @@ fn what_a_killed_run_left_goes_away() {
     assert_eq!(folder.names(), [&part, "list.txt", "other.mmdb", "out.mmdb"]);
 }
 
+/// A file that may not grow stands for a full disk.
+#[test]
+fn what_a_failed_run_wrote_goes_away() {
+    let folder = folder("failed");
+    folder.write("out.mmdb", "an older map");
+    let line = format!("trap '' XFSZ; ulimit -f 0; exec '{ZONEMAP}' list.txt out.mmdb");
+    let err = "out.mmdb: cannot be written: File too large (os error 27)\n";
+    assert_eq!(folder.shell(&line), ran(2, "", err));
+    assert_eq!(folder.read("out.mmdb"), b"an older map");
+    assert_eq!(folder.names(), ["list.txt", "out.mmdb"]);
+}
+
 #[test]
 fn what_a_live_run_writes_stays() {
     let folder = folder("live");
