@@ -114,6 +114,10 @@ fn a_socket_is_refused() {
 #[test]
 fn a_folder_is_refused() {
     let folder = folder("folder");
+    let err = ".: cannot be read: Is a directory (os error 21)\n";
+    assert_eq!(folder.run(ZONEMAP, &[".", "out.mmdb"]), ran(2, "", err));
+    assert_eq!(folder.run(IMAGE_CHECK, &["."]), ran(2, "", err));
+    assert_eq!(draw(&folder, ".", "out.png"), ran(2, "", err));
     fs::create_dir(folder.path("taken.png")).unwrap();
     let err = "taken.png: cannot be written: it is a folder\n";
     assert_eq!(folder.run(ZONEMAP, &["list.txt", "taken.png"]), ran(2, "", err));
@@ -202,6 +206,12 @@ fn names_that_are_not_utf_8() {
     let words = [&[name(b"m\xE4p.mmdb")], &frame[..], &[name(b"\xFF.ppm")]].concat();
     assert_eq!(folder.run_on(DRAW, &words, b""), ran(0, "no data: 1 pixel, #C9D8E0\n", ""));
     assert!(folder.path(name(b"\xFF.ppm")).exists());
+    let words = [&[name(b"m\xE4p.mmdb"), name(b"\xFF")], &frame[1..], &[name(b"\xFF.ppm")]].concat();
+    let err = "longitude \"\u{FFFD}\" is not a number\n";
+    assert_eq!(folder.run_on(DRAW, &words, b""), ran(2, "", err));
+    let words = [name(b"l\xEFst.txt"), name(b"out.mmdb"), name(b"1\xFF")];
+    let err = "epoch \"1\u{FFFD}\" is not a whole number from 0 to 18446744073709551615\n";
+    assert_eq!(folder.run_on(ZONEMAP, &words, b""), ran(2, "", err));
     let missing = folder.run_on(IMAGE_CHECK, &[name(b"\xFE")], b"");
     assert_eq!(missing, ran(2, "", &format!("\u{FFFD}: cannot be read: {}\n", common::NO_SUCH_FILE)));
 }

@@ -36,6 +36,18 @@ fn help() {
     }
 }
 
+/// The headings of docs/PROGRAMS.md are the usages.
+#[test]
+fn usages_in_the_documents() {
+    let document = include_str!("../../docs/PROGRAMS.md");
+    let folder = Folder::new("options_documents");
+    for (_, program) in PROGRAMS {
+        let help = folder.run(program, &["--help"]).out;
+        let usage = help.lines().next().and_then(|line| line.strip_prefix("usage: ")).unwrap();
+        assert!(document.contains(&format!("\n### {usage}\n")), "{usage}");
+    }
+}
+
 #[test]
 fn unknown_options_are_no_files() {
     let folder = Folder::new("options_unknown");
