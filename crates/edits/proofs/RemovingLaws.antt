@@ -9,13 +9,14 @@ use lib.Dec.{eqb}
 use lib.ListN.{length, replicate}
 use lib.Seq.{paste}
 use borrow.Author.Tests.{eq-eqb, ne-eqb}
+use Rattle.refusals.specs.Refusals.{OneOf, GivenExactly}
 use Rattle.prefix.specs.declared.Prefix.{Prefix}
 use Rattle.lookup.specs.Walking.{surveyOn, firstRefusal, leavesAll}
 use Rattle.lookup.specs.declared.Walk.{Walk}
 use Rattle.lookup.specs.declared.Met.{Met}
 use Rattle.lookup.specs.declared.Surveyed.{Surveyed}
 use Rattle.lookup.specs.declared.Surveyed.the-variants as surveyed
-use Rattle.lookup.proofs.SurveyLaws.{refusalOf, surveyOn-refusal}
+use Rattle.lookup.proofs.SurveyLaws.{refusalOf, surveyOn-given}
 use Rattle.plans.specs.Planning.{planRemoveOn}
 use Rattle.plans.specs.Planned.{Planned}
 use Rattle.plans.specs.Planned as planned
@@ -72,6 +73,9 @@ module _ (ws : List ℕ) (k : Prefix) (bs us : List ℕ) (x : Surveyed)
 
 -- ---- what any answer of removeOn shows
 
+abbrev Exact : ℕ → Edit Removal → Type 0
+Exact first o = GivenExactly first (0 ∷ 6 ∷ 7 ∷ []) (numberOf (o .answer))
+
 -- a refusal leaves the words, and one that leaves all has zero counts and leaves the bytes
 abbrev Left : List ℕ → Edit Removal → Type 0
 Left ws o = (n : ℕ) → numberOf (o .answer) ≡ suc n → o .words ≡ ws
@@ -96,6 +100,13 @@ module _ (ws bs ts : List ℕ) (n : ℕ) (s : Walk) where
       → Left ws (cond b (removedBy ws bs ts n s y) (record { answer = Absent n; bytes = paste bs 0 ts n; words = ws }))
   removedAt-left true y m h = removedBy-left y m h
   removedAt-left false y m h = refl
+
+  removedAt-given : (b : Bool) (y : Planned)
+      → OneOf (0 ∷ 6 ∷ 7 ∷ []) (numberOf (cond b (removedBy ws bs ts n s y) (record { answer = Absent n; bytes = paste bs 0 ts n; words = ws }) .answer))
+  removedAt-given true (planned.Go p) = tt
+  removedAt-given true planned.Damaged = tt
+  removedAt-given true planned.Full = tt
+  removedAt-given false y = tt
 
   removedAt-kept : (b : Bool) (y : Planned)
       → Kept bs (cond b (removedBy ws bs ts n s y) (record { answer = Absent n; bytes = paste bs 0 ts n; words = ws }))
@@ -126,11 +137,12 @@ module _ (ws : List ℕ) (k : Prefix) (bs ts : List ℕ) where
   removedOf-kept surveyed.Damaged h = (refl, refl)
 
 module _ (ws : List ℕ) (k : Prefix) (bs : List ℕ) where
-  removeOn-number : (n : ℕ) → firstRefusal ws k (length bs) ≡ suc n → numberOf (removeOn ws k bs .answer) ≡ suc n
+  removeOn-exact : Exact (firstRefusal ws k (length bs)) (removeOn ws k bs)
   unfolding removeOn
-  removeOn-number n h =
-      let v = surveyOn ws k (length bs) (replicate 129 0) in
-      removedOf-number ws k bs (v .widths) (v .out) n (surveyOn-refusal ws k (length bs) (replicate 129 0) n h)
+  removeOn-exact =
+      let ts = surveyOn ws k (length bs) (replicate 129 0) .widths in
+      surveyOn-given ws k (length bs) (replicate 129 0) (λ x. numberOf (removedOf ws k bs ts x .answer)) _ (removedOf-number ws k bs ts)
+      (λ n s e. removedAt-given ws bs ts n s (eqb (s .best) (k .width + 1)) (planRemoveOn ws k s)) tt
 
   removeOn-left : Left ws (removeOn ws k bs)
   unfolding removeOn
@@ -147,7 +159,7 @@ pub remove-promise : (ws : List ℕ) (k : Prefix) (bs : List ℕ) (r : Removal) 
 remove-promise ws k bs r us after e =
     record {
       answer = e;
-      refusal = λ n h. ap (λ (o : Edit Removal). numberOf (o .answer)) (sym e) ∙ removeOn-number ws k bs n h;
+      refusal = subst (Exact (firstRefusal ws k (length bs))) e (removeOn-exact ws k bs);
       left = subst (Left ws) e (removeOn-left ws k bs);
       kept = subst (Kept bs) e (removeOn-kept ws k bs);
       meaning = λ m h v g. ap (λ (o : Edit Removal). o .answer) (sym e) ∙ removeOn-holds ws k bs m h v g .answer;

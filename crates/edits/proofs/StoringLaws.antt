@@ -10,6 +10,7 @@ use lib.Dec.{eqb}
 use lib.ListN.{length, replicate}
 use lib.Seq.{paste}
 use borrow.Author.Tests.{eq-eqb, ne-eqb}
+use Rattle.refusals.specs.Refusals.{OneOf, GivenExactly}
 use Rattle.prefix.specs.declared.Prefix.{Prefix}
 use Rattle.zones.specs.Maps.{Map}
 use Rattle.records.specs.Holds.{Holds}
@@ -19,7 +20,7 @@ use Rattle.lookup.specs.declared.Walk.{Walk}
 use Rattle.lookup.specs.declared.Met.{Met}
 use Rattle.lookup.specs.declared.Surveyed.{Surveyed}
 use Rattle.lookup.specs.declared.Surveyed.the-variants as surveyed
-use Rattle.lookup.proofs.SurveyLaws.{surveyOn-cases, refusalOf, surveyOn-refusal}
+use Rattle.lookup.proofs.SurveyLaws.{surveyOn-cases, refusalOf, surveyOn-given}
 use Rattle.plans.specs.Planning.{planStoreOn}
 use Rattle.plans.specs.Planned.{Planned}
 use Rattle.plans.specs.Planned as planned
@@ -112,6 +113,9 @@ module _ (ws : List ℕ) (k : Prefix) (z : ℕ) (bs us : List ℕ) (x : Surveyed
 
 -- ---- what any answer of storeOn shows
 
+abbrev Exact : ℕ → Edit Stored → Type 0
+Exact first o = GivenExactly first (0 ∷ 6 ∷ 8 ∷ []) (numberOf (o .answer))
+
 -- a refusal leaves the words, and one that leaves all has zero counts and leaves the bytes
 abbrev Left : List ℕ → Edit Stored → Type 0
 Left ws o = (n : ℕ) → numberOf (o .answer) ≡ suc n → o .words ≡ ws
@@ -124,6 +128,11 @@ module _ (ws : List ℕ) (k : Prefix) (bs ts : List ℕ) (n : ℕ) (s : Walk) wh
   storedBy-left (planned.Go p) m h = let f : 0 ≡ suc m = sym (numberOf-acceptedOf k n s) ∙ h in cc
   storedBy-left planned.Damaged m h = refl
   storedBy-left planned.Full m h = refl
+
+  storedBy-given : (y : Planned) → OneOf (0 ∷ 6 ∷ 8 ∷ []) (numberOf (storedBy ws k bs ts n s y .answer))
+  storedBy-given (planned.Go p) = rw (numberOf-acceptedOf k n s) tt
+  storedBy-given planned.Damaged = tt
+  storedBy-given planned.Full = tt
 
   storedBy-kept : (y : Planned) → Kept bs (storedBy ws k bs ts n s y)
   unfolding leavesAll
@@ -154,11 +163,12 @@ module _ (ws : List ℕ) (k : Prefix) (z : ℕ) (bs ts : List ℕ) where
   storedOf-kept surveyed.Damaged h = (refl, refl)
 
 module _ (ws : List ℕ) (k : Prefix) (z : ℕ) (bs : List ℕ) where
-  storeOn-number : (n : ℕ) → firstRefusal ws k (length bs) ≡ suc n → numberOf (storeOn ws k z bs .answer) ≡ suc n
+  storeOn-exact : Exact (firstRefusal ws k (length bs)) (storeOn ws k z bs)
   unfolding storeOn
-  storeOn-number n h =
-      let v = surveyOn ws k (length bs) (replicate 129 0) in
-      storedOf-number ws k z bs (v .widths) (v .out) n (surveyOn-refusal ws k (length bs) (replicate 129 0) n h)
+  storeOn-exact =
+      let ts = surveyOn ws k (length bs) (replicate 129 0) .widths in
+      surveyOn-given ws k (length bs) (replicate 129 0) (λ x. numberOf (storedOf ws k z bs ts x .answer)) _ (storedOf-number ws k z bs ts)
+      (λ n s e. storedBy-given ws k bs ts n s (planStoreOn ws k z s e)) tt
 
   storeOn-left : Left ws (storeOn ws k z bs)
   unfolding storeOn
@@ -178,7 +188,7 @@ pub store-promise : (ws : List ℕ) (k : Prefix) (z : ℕ) (bs : List ℕ) (r : 
 store-promise ws k z bs r us after e =
     record {
       answer = e;
-      refusal = λ n h. ap (λ (o : Edit Stored). numberOf (o .answer)) (sym e) ∙ storeOn-number ws k z bs n h;
+      refusal = subst (Exact (firstRefusal ws k (length bs))) e (storeOn-exact ws k z bs);
       left = subst (Left ws) e (storeOn-left ws k z bs);
       kept = subst (Kept bs) e (storeOn-kept ws k z bs);
       meaning = λ m h v g. ap (λ (o : Edit Stored). o .answer) (sym e) ∙ storeOn-holds ws k z bs m h v g .answer;

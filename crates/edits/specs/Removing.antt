@@ -12,6 +12,7 @@ use mathlib.Core.Option.{Option, none, some}
 use lib.Dec.{eqb}
 use lib.ListN.{length, drop, replicate}
 use lib.Seq.{paste}
+use Rattle.refusals.specs.Refusals.{GivenExactly}
 use Rattle.prefix.specs.Keys.{stringOf, Valid}
 use Rattle.prefix.specs.declared.Prefix.{Prefix}
 use Rattle.zones.specs.Maps.{Map, keys, get, without}
@@ -79,7 +80,7 @@ pub record Remove (ws : List ℕ) (k : Prefix) (bs : List ℕ) (r : Removal) (us
   -- on any words the answer, the trail and the table are one function's value, so nothing else meets it
   pub answer : removeOn ws k bs ≡ record { answer = r; bytes = after; words = us }
   -- "The first that applies, in this order, is given"
-  pub refusal : (n : ℕ) → firstRefusal ws k (length bs) ≡ suc n → numberOf r ≡ suc n
+  pub refusal : GivenExactly (firstRefusal ws k (length bs)) (0 ∷ 6 ∷ 7 ∷ []) (numberOf r)
   -- "Every refusal leaves the table's words alone."
   pub left : (n : ℕ) → numberOf r ≡ suc n → us ≡ ws
   -- "all others return zero counts and leave every lent byte"

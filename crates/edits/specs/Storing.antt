@@ -15,6 +15,7 @@ use mathlib.Core.Option.{Option, none, some}
 use lib.Dec.{eqb}
 use lib.ListN.{length, drop, replicate}
 use lib.Seq.{paste}
+use Rattle.refusals.specs.Refusals.{GivenExactly}
 use Rattle.prefix.specs.Keys.{stringOf, Valid}
 use Rattle.prefix.specs.declared.Prefix.{Prefix}
 use Rattle.zones.specs.Maps.{Map, keys, get, put}
@@ -96,7 +97,7 @@ pub record Store (ws : List ℕ) (k : Prefix) (z : ℕ) (bs : List ℕ) (r : Sto
   -- on any words the answer, the trail and the table are one function's value, so nothing else meets it
   pub answer : storeOn ws k z bs ≡ record { answer = r; bytes = after; words = us }
   -- "The first that applies, in this order, is given"
-  pub refusal : (n : ℕ) → firstRefusal ws k (length bs) ≡ suc n → numberOf r ≡ suc n
+  pub refusal : GivenExactly (firstRefusal ws k (length bs)) (0 ∷ 6 ∷ 8 ∷ []) (numberOf r)
   -- "Every refusal leaves the table's words alone."
   pub left : (n : ℕ) → numberOf r ≡ suc n → us ≡ ws
   -- "all others return zero counts and leave every lent byte"

@@ -23,7 +23,7 @@ use Rattle.bits.proofs.NumbersLaws.{length-bitsOf, bitsOf-add}
 use Rattle.bits.proofs.ValueLaws.{digit-odd, value-cons, value-append, value-lt, bitsOf-value, bitsOf-mod}
 use Rattle.prefix.specs.Keys.{stringOf, wordBits, Valid}
 use Rattle.prefix.specs.declared.Prefix.{Prefix}
-use Rattle.ground.specs.Cells.{within, shifted, halfTurn, quarterTurn, scaled, column, row, interleave, cellBits, inRange, prefixOf, cellOf, numberOf, Cell}
+use Rattle.ground.specs.Cells.{within, shifted, halfTurn, quarterTurn, scaled, column, row, interleave, cellBits, inRange, prefixOf, cellOf, numberOf, valuesOf, Cell}
 use Rattle.ground.specs.declared.Located.{Located}
 use Rattle.ground.specs.declared.Located.the-variants.{At, BadPosition}
 
@@ -223,6 +223,10 @@ cellOf-at lon lat p h i e = rw (h, i, e)
 
 -- ---- Cell
 
+valuesOf-refused : (r : Located) → numberOf r ≡ 3 → valuesOf r ≡ 0 ∷ 0 ∷ 0 ∷ 0 ∷ 0 ∷ []
+valuesOf-refused (At p) h = cc
+valuesOf-refused BadPosition h = refl
+
 -- (k the cell's bits, and b whether the position is in range)
 module _ (k : Bits) (h : length k ≡ 64) (r : Located) where
   numberOf-at : (b : Bool) → r ≡ cond b (At (prefixOf k)) BadPosition → numberOf r ≡ cond b 0 3
@@ -243,4 +247,4 @@ cell-promise lon lat r e =
     let k = cellBits lon lat in
     let h : length k ≡ 64 = length-turns 32 (column lon) (row lat) in
     let b = inRange lon lat in
-    record { answer = e; number = numberOf-at k h r b e; meaning = meaning-at k h r b e }
+    record { answer = e; number = numberOf-at k h r b e; kept = valuesOf-refused r; meaning = meaning-at k h r b e }

@@ -89,5 +89,6 @@ pub record Cell (longitude latitude : ℤ) (r : Located) : Type 0 where
   -- one value, so no other answer meets it
   pub answer : r ≡ cellOf longitude latitude
   pub number : numberOf r ≡ cond (inRange longitude latitude) 0 3
+  pub kept : numberOf r ≡ 3 → valuesOf r ≡ 0 ∷ 0 ∷ 0 ∷ 0 ∷ 0 ∷ []
   -- a cell is a valid prefix, and its string is the paper's 64 bits
   pub meaning : (p : Prefix) → r ≡ At p → Valid p × (p .width ≡ 64) × (stringOf p ≡ cellBits longitude latitude)

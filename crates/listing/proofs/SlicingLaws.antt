@@ -2,22 +2,23 @@
 -- one that makes its contract of the answer.
 -- No contract cites this file.
 -- Assumes nothing.
-use Prim.Native.Nat.{ℕ, suc, _+_, _*_, _/_, _≤_, _<_}
+use Prim.Native.Nat.{ℕ, suc, _+_, _*_, _/_, _^_, _≤_, _<_}
 use native.Mathlib.Nat.{le-trans}
 use native.Mathlib.Omega.{arith}
 use mathlib.Core.Path.{_≡_, refl, sym, ap, subst, _∙_}
 use mathlib.Core.Bool.{Bool, true, false, not, cond}
 use mathlib.Core.List.{List, [], _∷_}
 use lib.Dec.{ltb, eqb}
-use lib.ListN.{length, replicate}
+use lib.ListN.{length, getD, replicate}
 use borrow.Author.Tests.{ltb-false, not-true, not-false, lt-ltb, le-ltb, eq-eqb, ne-eqb}
+use Rattle.refusals.specs.Refusals.{OneOf, GivenExactly}
 use Rattle.prefix.specs.Keys.{Validity}
 use Rattle.prefix.specs.declared.Prefix.{Prefix}
 use Rattle.prefix.proofs.KeysLaws.{isValid-true}
 use Rattle.records.specs.Layout.{isTable}
 use Rattle.records.proofs.LayoutLaws.{isTable-true}
 use Rattle.listing.specs.Touring.{Touring, startOn, tourFrom}
-use Rattle.listing.specs.Slicing.{soundOf, Narrow, refusedOf, Few, countedOf, Sliding, slidingOf, sliceOn, numberOf, valuesOf, numberOfRefused, Slice}
+use Rattle.listing.specs.Slicing.{soundOf, Narrow, refusedOf, Few, countedOf, Sliding, soughtFrom, slidingOf, sliceOn, numberOf, valuesOf, numberOfRefused, Slice}
 use Rattle.listing.specs.declared.Resume.{Resume}
 use Rattle.listing.specs.declared.Resume.the-variants.{Start, After}
 use Rattle.listing.specs.declared.Refused.{Refused}
@@ -157,13 +158,24 @@ module _ (ws : List ℕ) (r : Resume) (b : ℕ) (us : List ℕ) (y : Refused) (e
 
 -- ---- the contract
 
-slidingOf-number : (ws : List ℕ) (r : Resume) (b : ℕ) (us : List ℕ) (y : Refused) (n : ℕ) → numberOfRefused y ≡ suc n
-    → numberOf (slidingOf ws r b us y .answer) ≡ suc n
-slidingOf-number ws r b us refused.BadLength n h = h
-slidingOf-number ws r b us refused.BadPrefix n h = h
-slidingOf-number ws r b us refused.BadSize n h = h
-slidingOf-number ws r b us refused.ShortOut n h = h
-slidingOf-number ws r b us refused.No n h = cc
+-- a slice that is not refused is given, or Damaged
+countedOf-given : (z : Toured) (found : ℕ) → OneOf (0 ∷ 6 ∷ []) (numberOf (countedOf z found))
+countedOf-given toured.Bad found = tt
+countedOf-given (toured.Done n more passed) found = tt
+
+soughtFrom-given : (ws : List ℕ) (b : ℕ) (us ls : List ℕ) (s : Seek) → OneOf (0 ∷ 6 ∷ []) (numberOf (soughtFrom ws b us ls s .answer))
+soughtFrom-given ws b us ls seek.Bad = tt
+soughtFrom-given ws b us ls (seek.At next o found) = countedOf-given (tourFrom ws b next o ls us .out) found
+
+abbrev Exact : Refused → Sliding → Type 0
+Exact y s = GivenExactly (numberOfRefused y) (0 ∷ 6 ∷ []) (numberOf (s .answer))
+
+slidingOf-exact : (ws : List ℕ) (r : Resume) (b : ℕ) (us : List ℕ) (y : Refused) → Exact y (slidingOf ws r b us y)
+slidingOf-exact ws r b us refused.BadLength = refl
+slidingOf-exact ws r b us refused.BadPrefix = refl
+slidingOf-exact ws r b us refused.BadSize = refl
+slidingOf-exact ws r b us refused.ShortOut = refl
+slidingOf-exact ws r b us refused.No = let s = startOn ws r (replicate 129 0) in soughtFrom-given ws b us (s .links) (s .out)
 
 -- a refusal leaves the output
 abbrev Kept : List ℕ → Sliding → Type 0
@@ -177,17 +189,18 @@ slidingOf-kept ws r b us refused.BadSize n h = (refl, refl)
 slidingOf-kept ws r b us refused.ShortOut n h = (refl, refl)
 slidingOf-kept ws r b us refused.No n h = (cc, cc)
 
-pub slice-promise : (ws : List ℕ) (r : Resume) (b : ℕ) (us : List ℕ) (x : Sliced) (after : List ℕ)
+-- the table's words are of 32 bits, as the machine has them
+pub slice-promise : (ws : List ℕ) (r : Resume) (b : ℕ) (us : List ℕ) (x : Sliced) (after : List ℕ) → ((i : ℕ) → getD ws i 0 < 2 ^ 32)
     → sliceOn ws r b us ≡ record { answer = x; words = after } → Slice ws r b us x after
 unfolding sliceOn
-slice-promise ws r b us x after e =
+slice-promise ws r b us x after words e =
     let y = refusedOf (length ws) r b (length us) in
     record {
       answer = e;
-      refusal = λ n h. subst (λ (s : Sliding). numberOf (s .answer) ≡ suc n) e (slidingOf-number ws r b us y n h);
+      refusal = subst (Exact y) e (slidingOf-exact ws r b us y);
       kept = λ n h. subst (Kept us) e (slidingOf-kept ws r b us y n h);
       meaning = λ m h q. ap (λ (s : Sliding). s .answer) (sym e) ∙ sliceOn-holds ws r b us m h q;
-      written = λ m h w q. ap (λ (s : Sliding). s .words) (sym e) ∙ sliceOn-written ws r b us m h w q;
+      written = λ m h q. ap (λ (s : Sliding). s .words) (sym e) ∙ sliceOn-written ws r b us m h words q;
     }
 
 -- the promise admits one answer and one output, on any words

@@ -7,16 +7,17 @@
 --   wordsOf m           the entries of m as they stand in the output
 --   Slice               the contract of `slice`
 -- Assumes nothing.
-use Prim.Native.Nat.{ℕ, suc, _+_, _*_, _^_, _≤_, _<_}
+use Prim.Native.Nat.{ℕ, suc, _+_, _*_, _≤_}
 use mathlib.Core.Path.{_≡_}
 use mathlib.Core.Bool.{Bool, true, false, cond}
 use mathlib.Core.List.{List, [], _∷_, _++_}
 use mathlib.Core.Option.{Option, none, some}
 use lib.Dec.{ltb, eqb}
-use lib.ListN.{length, getD, take, drop, replicate}
+use lib.ListN.{length, take, drop, replicate}
 use Rattle.bits.specs.Lists.{each}
 use Rattle.bits.specs.Bits.{Bits}
 use Rattle.bits.specs.Numbers.{value}
+use Rattle.refusals.specs.Refusals.{GivenExactly}
 use Rattle.prefix.specs.Keys.{stringOf, isValid}
 use Rattle.zones.specs.Maps.{Entry, Map}
 use Rattle.zones.specs.Slices.{given, remains, count}
@@ -135,12 +136,12 @@ pub record Slice (ws : List ℕ) (r : Resume) (b : ℕ) (us : List ℕ) (x : Sli
   -- on any words the answer and the output are one function's value, so nothing else meets it
   pub answer : sliceOn ws r b us ≡ record { answer = x; words = after }
   -- "The first that applies, in this order, is given"
-  pub refusal : (n : ℕ) → numberOfRefused (refusedOf (length ws) r b (length us)) ≡ suc n → numberOf x ≡ suc n
+  pub refusal : GivenExactly (numberOfRefused (refusedOf (length ws) r b (length us))) (0 ∷ 6 ∷ []) (numberOf x)
   -- "leave every lent byte and word, except that a Damaged listing .. may have written its output"
   pub kept : (n : ℕ) → numberOfRefused (refusedOf (length ws) r b (length us)) ≡ suc n → (valuesOf x ≡ 0 ∷ 0 ∷ 0 ∷ []) × (after ≡ us)
   -- on words that hold a map, where no refusal applies: what is given, whether more remain, and the count
   pub meaning : (m : Map) → Holds ws m → refusedOf (length ws) r b (length us) ≡ refused.No
       → x ≡ Given (length (given m (resumeOf r) b)) (remains m (resumeOf r) b) (count m (resumeOf r) b)
-  -- "Words after those stay." (the table's words are of 32 bits, as the machine has them)
-  pub written : (m : Map) → Holds ws m → ((i : ℕ) → getD ws i 0 < 2 ^ 32) → refusedOf (length ws) r b (length us) ≡ refused.No
+  -- "Words after those stay."
+  pub written : (m : Map) → Holds ws m → refusedOf (length ws) r b (length us) ≡ refused.No
       → after ≡ wordsOf (given m (resumeOf r) b) ++ drop (6 * length (given m (resumeOf r) b)) us

@@ -2,13 +2,13 @@
 // is walked, and the sides that lie after it are kept open on a stack of links; then a tour reads
 // the nodes after it one by one. Whether more remain is known from links already read.
 mod links; // the stack of open links
-mod refusals; // the refusals before any record is read
+mod asked; // the refusals of what is asked, before any record is read
 mod touring; // the tour
 mod way; // the way to the resume prefix
 
+use asked::refuse;
 use prefix::Prefix;
 use records::Record;
-use refusals::refuse;
 use touring::tour_on;
 use way::begin;
 ghost use Prim.Native.Nat.{_≤_};

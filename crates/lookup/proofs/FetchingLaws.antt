@@ -10,6 +10,7 @@ use mathlib.Core.List.{List, [], _∷_}
 use lib.Dec.{eqb}
 use lib.ListN.{length, replicate}
 use borrow.Author.Tests.{eq-eqb, ne-eqb}
+use Rattle.refusals.specs.Refusals.{OneOf, GivenExactly}
 use Rattle.prefix.specs.declared.Prefix.{Prefix}
 use Rattle.lookup.specs.Walking.{surveyOn, firstRefusal, leavesAll, Outcome, leaveOn}
 use Rattle.lookup.specs.Fetching.{foundOf, fetchedOf, fetchOn, numberOf, valuesOf, Fetch}
@@ -21,7 +22,7 @@ use Rattle.lookup.specs.declared.Surveyed.{Surveyed}
 use Rattle.lookup.specs.declared.Surveyed.the-variants as surveyed
 use Rattle.lookup.specs.declared.Fetched.{Fetched}
 use Rattle.lookup.specs.declared.Fetched.the-variants.{Found, BadLength, BadPrefix, ShortOut, Damaged, Absent}
-use Rattle.lookup.proofs.SurveyLaws.{refusalOf, surveyOn-refusal}
+use Rattle.lookup.proofs.SurveyLaws.{refusalOf, surveyOn-given}
 use Rattle.lookup.proofs.HoldsLaws.{fetchOn-holds}
 
 -- ---- foundOf
@@ -51,6 +52,14 @@ module _ (k : Prefix) (n : ℕ) (s : Walk) where
       at : (b : Bool) → leavesAll (numberOf (cond b (Found n (s .zone)) (Absent n))) ≡ false
       at true = refl
       at false = refl
+
+  foundOf-given : OneOf (0 ∷ 6 ∷ 7 ∷ []) (numberOf (foundOf k n s))
+  unfolding foundOf
+  foundOf-given = at (eqb (s .best) (k .width + 1))
+    where
+      at : (b : Bool) → OneOf (0 ∷ 6 ∷ 7 ∷ []) (numberOf (cond b (Found n (s .zone)) (Absent n)))
+      at true = tt
+      at false = tt
 
 -- ---- fetchedOf
 
@@ -95,10 +104,13 @@ fetchOn-read ws k bs r after e y f q g =
     let given = fetchedOf-gives k (v .out) q (subst (λ (x : Reading). Gives k x q) (sym read) g) in
     λ i. record { answer = given i; bytes = e i .bytes }
 
-fetchOn-number : (ws : List ℕ) (k : Prefix) (bs : List ℕ) (n : ℕ) → firstRefusal ws k (length bs) ≡ suc n → numberOf (fetchOn ws k bs .answer) ≡ suc n
+abbrev Exact : ℕ → Outcome Fetched → Type 0
+Exact first o = GivenExactly first (0 ∷ 6 ∷ 7 ∷ []) (numberOf (o .answer))
+
+fetchOn-exact : (ws : List ℕ) (k : Prefix) (bs : List ℕ) → Exact (firstRefusal ws k (length bs)) (fetchOn ws k bs)
 unfolding fetchOn
-fetchOn-number ws k bs n h =
-    fetchedOf-number k (surveyOn ws k (length bs) (replicate 129 0) .out) n (surveyOn-refusal ws k (length bs) (replicate 129 0) n h)
+fetchOn-exact ws k bs =
+    surveyOn-given ws k (length bs) (replicate 129 0) (λ x. numberOf (fetchedOf k x)) _ (fetchedOf-number k) (λ n s e. foundOf-given k n s) tt
 
 abbrev Kept : List ℕ → Outcome Fetched → Type 0
 Kept bs o = leavesAll (numberOf (o .answer)) ≡ true → (valuesOf (o .answer) ≡ 0 ∷ 0 ∷ []) × (o .bytes ≡ bs)
@@ -115,7 +127,7 @@ pub fetch-promise : (ws : List ℕ) (k : Prefix) (bs : List ℕ) (r : Fetched) (
 fetch-promise ws k bs r after e =
     record {
       answer = e;
-      refusal = λ n h. ap (λ (o : Outcome Fetched). numberOf (o .answer)) (sym e) ∙ fetchOn-number ws k bs n h;
+      refusal = subst (Exact (firstRefusal ws k (length bs))) e (fetchOn-exact ws k bs);
       kept = subst (Kept bs) e (fetchOn-kept ws k bs);
       meaning = λ m h v g. ap (λ (o : Outcome Fetched). o .answer) (sym e ∙ fetchOn-holds ws k bs m h v g);
       written = λ m h v g. ap (λ (o : Outcome Fetched). o .bytes) (sym e ∙ fetchOn-holds ws k bs m h v g);

@@ -9,6 +9,7 @@ use mathlib.Core.List.{List, [], _∷_}
 use lib.Dec.{eqb}
 use lib.ListN.{length, replicate}
 use borrow.Author.Tests.{eq-eqb, ne-eqb}
+use Rattle.refusals.specs.Refusals.{OneOf, GivenExactly}
 use Rattle.prefix.specs.declared.Prefix.{Prefix}
 use Rattle.lookup.specs.Walking.{surveyOn, firstRefusal, leavesAll, Outcome, leaveOn}
 use Rattle.lookup.specs.Matching.{matchOf, matchedOf, longestOn, numberOf, valuesOf, LongestMatch}
@@ -20,7 +21,7 @@ use Rattle.lookup.specs.declared.Surveyed.{Surveyed}
 use Rattle.lookup.specs.declared.Surveyed.the-variants as surveyed
 use Rattle.lookup.specs.declared.Matched.{Matched}
 use Rattle.lookup.specs.declared.Matched.the-variants.{Match, NoMatch, BadLength, BadPrefix, ShortOut, Damaged}
-use Rattle.lookup.proofs.SurveyLaws.{refusalOf, surveyOn-refusal}
+use Rattle.lookup.proofs.SurveyLaws.{refusalOf, surveyOn-given}
 use Rattle.lookup.proofs.HoldsLaws.{longestOn-holds}
 
 -- ---- matchOf
@@ -36,14 +37,18 @@ module _ (n b z : ℕ) where
   matchOf-some h s e f = rw (ne-eqb (s .best) 0 (λ g. h (sym e ∙ g)), e, f)
 
 module _ (n : ℕ) (s : Walk) where
-  -- both answers write the trail
-  matchOf-writes : leavesAll (numberOf (matchOf n s)) ≡ false
-  unfolding matchOf leavesAll
-  matchOf-writes = at (eqb (s .best) 0)
+  matchOf-number : numberOf (matchOf n s) ≡ 0
+  unfolding matchOf
+  matchOf-number = at (eqb (s .best) 0)
     where
-      at : (b : Bool) → leavesAll (numberOf (cond b (NoMatch n) (Match n (s .best - 1) (s .zone)))) ≡ false
+      at : (b : Bool) → numberOf (cond b (NoMatch n) (Match n (s .best - 1) (s .zone))) ≡ 0
       at true = refl
       at false = refl
+
+  -- so it writes the trail
+  matchOf-writes : leavesAll (numberOf (matchOf n s)) ≡ false
+  unfolding leavesAll
+  matchOf-writes = ap leavesAll matchOf-number
 
 -- ---- matchedOf
 
@@ -88,10 +93,13 @@ longestOn-read ws k bs r after e y f q g =
     let given = matchedOf-gives (v .out) q (subst (λ (x : Reading). Gives x q) (sym read) g) in
     λ i. record { answer = given i; bytes = e i .bytes }
 
-longestOn-number : (ws : List ℕ) (k : Prefix) (bs : List ℕ) (n : ℕ) → firstRefusal ws k (length bs) ≡ suc n → numberOf (longestOn ws k bs .answer) ≡ suc n
+abbrev Exact : ℕ → Outcome Matched → Type 0
+Exact first o = GivenExactly first (0 ∷ 6 ∷ []) (numberOf (o .answer))
+
+longestOn-exact : (ws : List ℕ) (k : Prefix) (bs : List ℕ) → Exact (firstRefusal ws k (length bs)) (longestOn ws k bs)
 unfolding longestOn
-longestOn-number ws k bs n h =
-    matchedOf-number (surveyOn ws k (length bs) (replicate 129 0) .out) n (surveyOn-refusal ws k (length bs) (replicate 129 0) n h)
+longestOn-exact ws k bs =
+    surveyOn-given ws k (length bs) (replicate 129 0) (λ x. numberOf (matchedOf x)) _ matchedOf-number (λ n s e. rw (matchOf-number n s) tt) tt
 
 abbrev Kept : List ℕ → Outcome Matched → Type 0
 Kept bs o = leavesAll (numberOf (o .answer)) ≡ true → (valuesOf (o .answer) ≡ 0 ∷ 0 ∷ 0 ∷ 0 ∷ []) × (o .bytes ≡ bs)
@@ -108,7 +116,7 @@ pub longest-promise : (ws : List ℕ) (k : Prefix) (bs : List ℕ) (r : Matched)
 longest-promise ws k bs r after e =
     record {
       answer = e;
-      refusal = λ n h. ap (λ (o : Outcome Matched). numberOf (o .answer)) (sym e) ∙ longestOn-number ws k bs n h;
+      refusal = subst (Exact (firstRefusal ws k (length bs))) e (longestOn-exact ws k bs);
       kept = subst (Kept bs) e (longestOn-kept ws k bs);
       meaning = λ m h v g. ap (λ (o : Outcome Matched). o .answer) (sym e ∙ longestOn-holds ws k bs m h v g);
       written = λ m h v g. ap (λ (o : Outcome Matched). o .bytes) (sym e ∙ longestOn-holds ws k bs m h v g);

@@ -2,22 +2,27 @@
 -- and what is written in the lent trail.
 -- No contract cites this file.
 -- Assumes nothing.
-use Prim.Native.Nat.{ℕ, suc, _+_, _≤_, _<_}
+use Prim.Native.Nat.{ℕ, zero, suc, _+_, _≤_, _<_}
 use native.Mathlib.Nat.{zero-add}
 use native.Mathlib.Numerals.{add-one}
+use native.Mathlib.Omega.{arith}
 use mathlib.Core.Path.{_≡_, refl, sym, ap, subst, _∙_}
 use mathlib.Core.Bool.{Bool, true, false, not, cond}
-use mathlib.Core.List.{List}
+use mathlib.Core.List.{List, [], _∷_}
 use lib.Dec.{ltb}
 use lib.ListN.{length, getD, set}
 use lib.Seq.{paste, paste-suc}
 use borrow.Author.Tests.{ltb-false, not-true, not-false, lt-ltb, le-ltb}
+use Rattle.refusals.specs.Refusals.{OneOf, GivenExactly}
+use Rattle.refusals.proofs.RefusalsLaws.{exactly-walk}
 use Rattle.prefix.specs.Keys.{isValid, Validity}
 use Rattle.prefix.specs.declared.Prefix.{Prefix}
 use Rattle.prefix.proofs.KeysLaws.{isValid-true}
 use Rattle.records.specs.Layout.{isTable}
-use Rattle.lookup.specs.Walking.{Survey, walkFrom, surveyOn, firstRefusal}
+use Rattle.lookup.specs.Walking.{Survey, stepOn, afterOn, walkOn, startOn, walkFrom, surveyOn, firstRefusal}
 use Rattle.lookup.specs.declared.Walk.{Walk}
+use Rattle.lookup.specs.declared.Step.{Step}
+use Rattle.lookup.specs.declared.Step.the-variants.{Down, Last, End, Bad}
 use Rattle.lookup.specs.declared.Met.{Met}
 use Rattle.lookup.specs.declared.Surveyed.{Surveyed}
 use Rattle.lookup.specs.declared.Surveyed.the-variants.{Path, BadLength, BadPrefix, ShortOut, Damaged}
@@ -113,12 +118,44 @@ refusalOf BadPrefix = 2
 refusalOf ShortOut = 5
 refusalOf Damaged = 6
 
-pub surveyOn-refusal : (ws : List ℕ) (k : Prefix) (room : ℕ) (ts : List ℕ) (n : ℕ) → firstRefusal ws k room ≡ suc n
-    → refusalOf (surveyOn ws k room ts .out) ≡ suc n
-unfolding firstRefusal
-surveyOn-refusal ws k room ts n =
-    surveyOn-cases ws k room ts (λ v. firstRefusal ws k room ≡ suc n → refusalOf (v .out) ≡ suc n) (λ a h. simp a at h) (λ a b h. simp (a, b) at h)
-    (λ a b c h. simp (a, b, c) at h) (λ a b c h. let z = simp (a, b, c) at h in cc)
+-- a walk ends with a path, or is Damaged
+abbrev Walks : Survey → Type 0
+Walks v = OneOf (0 ∷ 6 ∷ []) (refusalOf (v .out))
+
+walkOn-walks : (f : ℕ) (ws : List ℕ) (k : Prefix) (n : ℕ) (ts : List ℕ) (s : Walk) → Walks (walkOn f ws k n ts s)
+unfolding walkOn afterOn
+walkOn-walks zero ws k n ts s = tt
+walkOn-walks (suc f) ws k n ts s = at (stepOn ws k s) (λ w d. walkOn-walks f ws k (n + 1) (set ts n w) d)
+  where
+    at : (x : Step) → ((w : ℕ) (d : Walk) → Walks (walkOn f ws k (n + 1) (set ts n w) d))
+        → Walks (afterOn x n ts s (λ w d. walkOn f ws k (n + 1) (set ts n w) d))
+    at (Down w d) go = go w d
+    at (Last w b) go = tt
+    at End go = tt
+    at Bad go = tt
+
+module _ (ws : List ℕ) (k : Prefix) (room : ℕ) (ts : List ℕ) where
+  surveyOn-exactly : GivenExactly (firstRefusal ws k room) (0 ∷ 6 ∷ []) (refusalOf (surveyOn ws k room ts .out))
+  unfolding firstRefusal walkFrom
+  surveyOn-exactly =
+      surveyOn-cases ws k room ts (λ v. GivenExactly (firstRefusal ws k room) (0 ∷ 6 ∷ []) (refusalOf (v .out))) (λ a. rw a) (λ a b. rw (a, b))
+      (λ a b c. rw (a, b, c)) (λ a b c. rw (a, b, c) (walkOn-walks 130 ws k 0 ts (startOn ws)))
+
+  -- A call that hands on the refusals of its survey, and answers one of the rest where there is a path: its
+  -- number is given exactly when the paper says so.
+  pub surveyOn-given : (number : Surveyed → ℕ) (rest : List ℕ) → ((x : Surveyed) (n : ℕ) → refusalOf x ≡ suc n → number x ≡ suc n)
+      → ((n : ℕ) (s : Walk) (e : Met) → OneOf rest (number (Path n s e))) → OneOf rest 6
+      → GivenExactly (firstRefusal ws k room) rest (number (surveyOn ws k room ts .out))
+  surveyOn-given number rest same done six =
+      let x = surveyOn ws k room ts .out in
+      exactly-walk (firstRefusal ws k room) rest (refusalOf x) (number x) surveyOn-exactly (same x) (at x) six
+    where
+      at : (x : Surveyed) → refusalOf x ≡ 0 → OneOf rest (number x)
+      at (Path n s e) h = done n s e
+      at BadLength h = absurd (omega (arith, h))
+      at BadPrefix h = absurd (omega (arith, h))
+      at ShortOut h = absurd (omega (arith, h))
+      at Damaged h = absurd (omega (arith, h))
 
 -- ---- leaveOn
 

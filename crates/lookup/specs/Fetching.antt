@@ -13,6 +13,7 @@ use mathlib.Core.List.{List, [], _∷_, _++_}
 use mathlib.Core.Option.{Option, none, some}
 use lib.Dec.{eqb}
 use lib.ListN.{length, drop, replicate}
+use Rattle.refusals.specs.Refusals.{GivenExactly}
 use Rattle.prefix.specs.Keys.{stringOf, Valid}
 use Rattle.prefix.specs.declared.Prefix.{Prefix}
 use Rattle.zones.specs.Maps.{Map, keys, get}
@@ -70,7 +71,7 @@ pub record Fetch (ws : List ℕ) (k : Prefix) (bs : List ℕ) (r : Fetched) (aft
   -- on any words the answer and the trail are one function's value, so nothing else meets it
   pub answer : fetchOn ws k bs ≡ record { answer = r; bytes = after }
   -- "The first that applies, in this order, is given"
-  pub refusal : (n : ℕ) → firstRefusal ws k (length bs) ≡ suc n → numberOf r ≡ suc n
+  pub refusal : GivenExactly (firstRefusal ws k (length bs)) (0 ∷ 6 ∷ 7 ∷ []) (numberOf r)
   -- "all others return zero counts and leave every lent byte"
   pub kept : leavesAll (numberOf r) ≡ true → (valuesOf r ≡ 0 ∷ 0 ∷ []) × (after ≡ bs)
   -- on words that hold a map, with a valid key and room for its trail: the stored number, and the path's

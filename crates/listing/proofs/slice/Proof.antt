@@ -1,10 +1,16 @@
 -- `listing::slice` meets its contract: each arm answers what the definition makes of the refusal, of the way
 -- to the resume prefix, or of the tour.
 -- Assumes nothing.
+use Prim.Native.Nat.{ℕ, _^_, _<_}
+use lib.ListN.{getD}
 use borrow.Author.Needs.{needs}
 use Rattle.listing.proofs.SlicingLaws.{refusedOf-allowed, sliceOn-refused, sliceOn-damaged, sliceOn-few, sliceOn-toured, slice-promise}
 use Rattle.listing.proofs.slice.Statement.{statement}
 use Rattle.listing.proofs.slice.Tie as tie
+
+-- a lent word is of 32 bits
+words : (c : tie.After-refuse) (i : ℕ) → getD (c .before .before .before .args .table .now) i 0 < 2 ^ 32
+words c i = c .before .before .shared-slice-known .given i .fits
 
 begin-requires : tie.Need-begin-requires
 begin-requires c κs =
@@ -28,22 +34,22 @@ counted-requires c κs =
     (at-tour .tour-on .ensures)
 
 returns : tie.Need-returns
-returns c = slice-promise _ _ _ _ _ _ (sliceOn-refused _ _ _ _ _ (c .before .before .refuse .ensures) _ (c .enum-told .given .1))
+returns c = slice-promise _ _ _ _ _ _ (words (c .before .before)) (sliceOn-refused _ _ _ _ _ (c .before .before .refuse .ensures) _ (c .enum-told .given .1))
 
 returns-2 : tie.Need-returns-2
-returns-2 c = slice-promise _ _ _ _ _ _ (sliceOn-refused _ _ _ _ _ (c .before .before .refuse .ensures) _ (c .enum-told2 .given .1))
+returns-2 c = slice-promise _ _ _ _ _ _ (words (c .before .before)) (sliceOn-refused _ _ _ _ _ (c .before .before .refuse .ensures) _ (c .enum-told2 .given .1))
 
 returns-3 : tie.Need-returns-3
-returns-3 c = slice-promise _ _ _ _ _ _ (sliceOn-refused _ _ _ _ _ (c .before .before .refuse .ensures) _ (c .enum-told3 .given .1))
+returns-3 c = slice-promise _ _ _ _ _ _ (words (c .before .before)) (sliceOn-refused _ _ _ _ _ (c .before .before .refuse .ensures) _ (c .enum-told3 .given .1))
 
 returns-4 : tie.Need-returns-4
-returns-4 c = slice-promise _ _ _ _ _ _ (sliceOn-refused _ _ _ _ _ (c .before .before .refuse .ensures) _ (c .enum-told4 .given .1))
+returns-4 c = slice-promise _ _ _ _ _ _ (words (c .before .before)) (sliceOn-refused _ _ _ _ _ (c .before .before .refuse .ensures) _ (c .enum-told4 .given .1))
 
 returns-5 : tie.Need-returns-5
 returns-5 c =
     let at-begin = c .before .before in
     let at-no = at-begin .before .before in
-    slice-promise _ _ _ _ _ _
+    slice-promise _ _ _ _ _ _ (words (at-no .before .before))
     (sliceOn-damaged _ _ _ _ _ (at-no .before .before .refuse .ensures) _ _ (at-no .enum-told5 .given .1) (at-begin .begin .ensures)
     (c .enum-told6 .given .1))
 
@@ -53,7 +59,7 @@ returns-6 c =
     let at-y = at-tour .before .before .before .before in
     let at-begin = at-y .before .before in
     let at-no = at-begin .before .before in
-    slice-promise _ _ _ _ _ _
+    slice-promise _ _ _ _ _ _ (words (at-no .before .before))
     (sliceOn-toured _ _ _ _ _ (at-no .before .before .refuse .ensures) _ _ (at-no .enum-told5 .given .1) (at-begin .begin .ensures)
     _ _ _ _ _ _ _ (at-y .y .given .1) (at-tour .tour-on .ensures) (c .counted .ensures))
 

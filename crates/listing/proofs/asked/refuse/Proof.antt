@@ -1,9 +1,9 @@
--- `listing::refusals::refuse` meets its contract: the tests are those of the definition, in its order.
+-- `listing::asked::refuse` meets its contract: the tests are those of the definition, in its order.
 -- Assumes nothing.
 use borrow.Author.Needs.{needs}
 use Rattle.listing.proofs.SlicingLaws.{refusedOf-length, refusedOf-prefix, refusedOf-zero, refusedOf-large, refusedOf-room, refusedOf-no}
-use Rattle.listing.proofs.refusals.refuse.Statement.{statement}
-use Rattle.listing.proofs.refusals.refuse.Tie as tie
+use Rattle.listing.proofs.asked.refuse.Statement.{statement}
+use Rattle.listing.proofs.asked.refuse.Tie as tie
 
 returns : tie.Need-returns
 returns c = refusedOf-length _ _ _ _ _ (c .before .is-table .ensures) (search needs)

@@ -1,4 +1,4 @@
-// The refusals before any record is read.
+// The refusals of what is asked, before any record is read.
 use crate::Refused;
 use crate::Resume;
 ghost use mathlib.Core.Path.{_≡_};
