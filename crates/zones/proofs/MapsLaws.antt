@@ -1,21 +1,23 @@
 -- The laws of a map: what a store and a remove do to every key, and that a map is what it answers. No
 -- contract cites this file.
 -- Assumes nothing.
+use Prim.Native.Nat.{ℕ}
 use mathlib.Core.Path.{_≡_, refl, sym, ap, _∙_}
-use mathlib.Core.Bool.{Bool, true, false, not, cond, true≢false}
+use mathlib.Core.Bool.{Bool, true, false, not, cond, _||_, true≢false}
 use mathlib.Core.List.{List, [], _∷_, List·Memᴰ, List·Memᴰ·head, List·Memᴰ·tail}
 use mathlib.Core.Option.{none, some, Option·some-injective, Option·some-ne-none, Option·none-ne-some}
-use lib.Dec.{T}
-use Rattle.bits.specs.Lists.{all, keep}
-use Rattle.bits.specs.Bits.{Bits, order, isBefore, isSame, before, equal, rising}
+use lib.Dec.{T, ltb}
+use lib.ListN.{length}
+use Rattle.bits.specs.Lists.{any, all, keep}
+use Rattle.bits.specs.Bits.{Bits, order, isBefore, isSame, before, equal, rising, member}
 use Rattle.bits.specs.declared.Order.{Order}
 use Rattle.bits.specs.declared.Order.the-variants.{Before, Same, After}
 use Rattle.bits.proofs.ListsLaws.{and-left, and-right, all-mem, mem-map}
 use Rattle.bits.proofs.BitsLaws.{equal-true, order-refl, flip, order-flip}
 use Rattle.bits.proofs.RisingLaws.{rising-keep, before-rising, before-not-equal}
 use Rattle.zones.specs.Maps.{Entry, Map, keys, ascending, get, put, putAt, without}
-use Rattle.zones.specs.Nodes.{join, joinAt}
-use Rattle.zones.proofs.NodesLaws.{rising-join}
+use Rattle.zones.specs.Nodes.{join, joinAt, nodes, overflows}
+use Rattle.zones.proofs.NodesLaws.{rising-join, join-member}
 
 -- ---- keys
 
@@ -187,3 +189,26 @@ put-put e f m h c =
     map-ext (put e (put f m)) (put f (put e m)) (ascending-put e (put f m) (ascending-put f m h)) (ascending-put f (put e m) (ascending-put e m h))
     (λ k. rw (get-put k e (put f m), get-put k f m, get-put k f (put e m), get-put k e m)
     (cond-swap (equal k (e .key)) (equal k (f .key)) (some (e .zone)) (some (f .zone)) (get k m) (not-both k (e .key) (f .key) c)))
+
+-- ---- overflows
+
+get-member : (k : Bits) (m : Map) (z : ℕ) → get k m ≡ some z → T (member k (keys m))
+unfolding member keys
+get-member k [] z h = absurd (Option·none-ne-some z h)
+get-member k (e ∷ m) z h = at (equal k (e .key)) h (get-member k m z)
+  where
+    at : (b : Bool) → cond b (some (e .zone)) (get k m) ≡ some z → (get k m ≡ some z → T (any (equal k) (keys m)))
+        → T (b || any (equal k) (keys m))
+    at true h ih = tt
+    at false h ih = ih h
+
+-- "replaces its zone number": no key comes or goes
+pub keys-put-stored : (e : Entry) (m : Map) (z : ℕ) → T (ascending m) → get (e .key) m ≡ some z → keys (put e m) ≡ keys m
+unfolding ascending
+keys-put-stored e m z h s = keys-put e m ∙ join-member (e .key) (keys m) h (get-member (e .key) m z s)
+
+-- so a replacement changes no node
+pub overflows-stored : (c : ℕ) (e : Entry) (m : Map) (z : ℕ) → T (ascending m) → get (e .key) m ≡ some z
+    → overflows c e m ≡ ltb c (length (nodes (keys m)))
+unfolding overflows
+overflows-stored c e m z h s = ap (λ (ks : List Bits). ltb c (length (nodes ks))) (keys-put-stored e m z h s)

@@ -2,7 +2,7 @@
 -- prefix of two members, and the nodes ascend. No contract cites this file.
 -- Assumes nothing.
 use mathlib.Core.Path.{_≡_, refl, sym, ap, _∙_}
-use mathlib.Core.Bool.{Bool, true, _||_, or-self-left}
+use mathlib.Core.Bool.{Bool, true, false, _||_, or-self-left}
 use mathlib.Core.List.{List, [], _∷_, map, List·Memᴰ}
 use lib.Dec.{T}
 use Rattle.bits.specs.Lists.{any, all, each}
@@ -11,7 +11,7 @@ use Rattle.bits.specs.declared.Order.{Order}
 use Rattle.bits.specs.declared.Order.the-variants.{Before, Same, After}
 use Rattle.bits.proofs.ListsLaws.{or-swap, and-left, and-right, and-both, any-map, any-each, any-mem, mem-any, T-true, true-T}
 use Rattle.bits.proofs.BitsLaws.{equal-true, equal-refl, eq-equal, order-flip}
-use Rattle.bits.proofs.RisingLaws.{before-rising}
+use Rattle.bits.proofs.RisingLaws.{before-rising, rising-ext}
 use Rattle.zones.specs.Nodes.{join, joinAt, inOrder, isNode, nodes}
 
 -- ---- join
@@ -52,6 +52,16 @@ pub rising-join : (p : Bits) (qs : List Bits) → T (rising qs) → T (rising (j
 rising-join p [] h = tt
 rising-join p (q ∷ qs) h =
     rising-join-at (order p q) p q qs refl h (rising-join p qs (and-right (all (before q) qs) (rising qs) h))
+
+join-member-at : (b : Bool) (r p : Bits) (s : List Bits) → equal r p ≡ b → T (any (equal p) s) → (b || any (equal r) s) ≡ any (equal r) s
+join-member-at true r p s e i = sym (rw (equal-true r p (rw e tt)) (T-true (any (equal p) s) i))
+join-member-at false r p s e i = refl
+
+-- a set with one of its members is the set
+pub join-member : (p : Bits) (s : List Bits) → T (rising s) → T (member p s) → join p s ≡ s
+unfolding member
+join-member p s h i =
+    rising-ext (join p s) s (rising-join p s h) h (λ r. any-join r p s ∙ join-member-at (equal r p) r p s refl i)
 
 -- ---- inOrder
 
