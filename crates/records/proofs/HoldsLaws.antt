@@ -1,20 +1,26 @@
--- The laws of words that are a table of a map: its links have room, its map ascends, its records add up,
--- and its tree's shape is the map's; and when other words are linked alike. No contract cites this file.
+-- The laws of words that are a table of a map: its links have room, its map ascends, its records add up, so
+-- that a replacement is never refused, its tree's shape is the map's, and there is one such map; and when
+-- other words are linked alike. No contract cites this file.
 -- Assumes nothing.
-use Prim.Native.Nat.{ℕ, _+_}
+use Prim.Native.Nat.{ℕ, _+_, _<_}
+use native.Mathlib.Omega.{arith}
 use mathlib.Core.Path.{_≡_, refl, sym, ap, _∙_}
-use mathlib.Core.Bool.{true}
+use mathlib.Core.Bool.{true, false}
 use mathlib.Core.List.{List, [], _∷_, _++_, List·Memᴰ, List·Memᴰ·head, List·Memᴰ·tail, Memᴰ·append-left, Memᴰ·append-right}
+use mathlib.Core.Option.{some}
 use lib.Dec.{T}
 use lib.ListN.{length, length-append}
-use Rattle.zones.specs.Maps.{Map, keys, ascending}
-use Rattle.zones.specs.Nodes.{nodes}
-use Rattle.zones.specs.Tree.{Tree, tip, node, strings, shape}
+use borrow.Author.Tests.{le-ltb}
+use Rattle.prefix.specs.Keys.{stringOf}
+use Rattle.zones.specs.Maps.{Entry, Map, keys, ascending, get}
+use Rattle.zones.specs.Nodes.{nodes, overflows}
+use Rattle.zones.specs.Tree.{Tree, tip, node, entries, strings, shape}
+use Rattle.zones.proofs.MapsLaws.{overflows-stored}
 use Rattle.zones.proofs.TreeLaws.{ascending-entries, nodes-entries}
 use Rattle.zones.proofs.ShapeLaws.{shape-ext}
-use Rattle.records.specs.Layout.{isTable, roomOf}
+use Rattle.records.specs.Layout.{isTable, capacity, roomOf, keyOf, zoneOf}
 use Rattle.records.specs.Holds.{Memory, labels, Linked, Chained, Holds}
-use Rattle.records.proofs.LayoutLaws.{isTable-tableLength, roomOf-tableLength}
+use Rattle.records.proofs.LayoutLaws.{isTable-tableLength, capacity-tableLength, roomOf-tableLength}
 use Rattle.records.proofs.OnceLaws.{once-bounds, length-once}
 
 -- ---- labels
@@ -34,6 +40,24 @@ linked-ext mem nem l (node a s v x y) f h =
     let left = linked-ext mem nem (mem a .left) x (λ b i. f b (List·Memᴰ·tail (Memᴰ·append-left (labels y) i))) (h .2) in
     let right = linked-ext mem nem (mem a .right) y (λ b i. f b (List·Memᴰ·tail (Memᴰ·append-right (labels x) i))) (h .3) in
     (h .0, rw e at (h .1), rw e at left, rw e at right)
+
+abbrev Positive : Tree ℕ → Type 0
+Positive t = (a : ℕ) → List·Memᴰ a (labels t) → 0 < a
+
+-- one memory links one tree from one link
+linked-single : (mem : Memory) (l : ℕ) (t u : Tree ℕ) → Positive t → Positive u → Linked mem l t → Linked mem l u → t ≡ u
+linked-single mem l tip tip p q h k = refl
+linked-single mem l tip (node b s v x y) p q h k = absurd (omega (arith, q b (List·Memᴰ·head refl), k .0))
+linked-single mem l (node a s v x y) tip p q h k = absurd (omega (arith, p a (List·Memᴰ·head refl), h .0))
+linked-single mem l (node a s v x y) (node b r w z u) p q h k =
+    let link : a ≡ b = sym (h .0) ∙ k .0 in
+    let string : s ≡ r = sym (h .1 .string) ∙ ap (λ (c : ℕ). stringOf (keyOf (mem c))) link ∙ k .1 .string in
+    let zone : v ≡ w = sym (h .1 .zone) ∙ ap (λ (c : ℕ). zoneOf (mem c)) link ∙ k .1 .zone in
+    let left = linked-single mem (mem a .left) x z (λ c i. p c (List·Memᴰ·tail (Memᴰ·append-left (labels y) i)))
+    (λ c i. q c (List·Memᴰ·tail (Memᴰ·append-left (labels u) i))) (h .2) (rw (← link) at (k .2)) in
+    let right = linked-single mem (mem a .right) y u (λ c i. p c (List·Memᴰ·tail (Memᴰ·append-right (labels x) i)))
+    (λ c i. q c (List·Memᴰ·tail (Memᴰ·append-right (labels z) i))) (h .3) (rw (← link) at (k .3)) in
+    λ i. node (link i) (string i) (zone i) (left i) (right i)
 
 -- ---- Chained
 
@@ -69,6 +93,21 @@ module _ {ws : List ℕ} {m : Map} where
   nodes-holds h =
       let n : nodes (keys m) ≡ strings (h .tree) = rw (h .map-is) at (nodes-entries [] (h .tree) (h .good)) in
       rw (n, ← length-labels (h .tree), ← length-append) (length-once (h .records) (labels (h .tree) ++ h .chain) (h .once))
+
+  -- a replacement is never Full
+  pub overflows-replaced : Holds ws m → (e : Entry) (z : ℕ) → get (e .key) m ≡ some z → overflows (capacity (length ws)) e m ≡ false
+  overflows-replaced h e z s =
+      let records : capacity (length ws) ≡ h .records = ap capacity (h .length-is) ∙ capacity-tableLength (h .records) in
+      overflows-stored (capacity (length ws)) e m z (ascending-holds h) s ∙ le-ltb (capacity (length ws)) (length (nodes (keys m))) (omega (arith, nodes-holds h, records))
+
+  labels-positive : (h : Holds ws m) → Positive (h .tree)
+  labels-positive h a i = once-bounds (h .records) (labels (h .tree) ++ h .chain) (h .once) a (Memᴰ·append-left (h .chain) i) .0
+
+-- one memory holds one map
+pub holds-single : {ws : List ℕ} {m n : Map} → Holds ws m → Holds ws n → m ≡ n
+holds-single h k =
+    sym (h .map-is)
+    ∙ ap (λ (t : Tree ℕ). entries t) (linked-single _ _ (h .tree) (k .tree) (labels-positive h) (labels-positive k) (h .linked) (k .linked)) ∙ k .map-is
 
 -- two tables of one map have trees of one shape
 pub shape-holds : {ws us : List ℕ} {m : Map} (h : Holds ws m) (g : Holds us m) → shape (h .tree) ≡ shape (g .tree)
