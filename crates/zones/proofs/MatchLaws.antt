@@ -17,7 +17,7 @@ use Rattle.bits.specs.Bits.{Bits, isPrefix, before, rising}
 use Rattle.bits.proofs.ListsLaws.{and-left, and-right, all-keep-same, mem-keep, keep-mem}
 use Rattle.bits.proofs.BitsLaws.{before-length, isPrefix-same}
 use Rattle.bits.proofs.RisingLaws.{rising-keep}
-use Rattle.zones.specs.Maps.{Entry, Map, keys, ascending, get, wider, widest, longestMatch}
+use Rattle.zones.specs.Maps.{Entry, Map, keys, ascending, get, wider, widest, longestMatch, Longest}
 use Rattle.zones.proofs.MapsLaws.{keys-keep, get-mem}
 
 last-all : (g : Bits → Bool) (e : Entry) (m : Map) → T (all g (keys (e ∷ m))) → T (g (lastOr e m .key))
@@ -47,12 +47,6 @@ longestMatch-last k m h =
     (rw (keys-keep (λ p. isPrefix p k) m) (all-keep-same (λ p. isPrefix p k) (keys m)))
 
 -- ---- longestMatch
-
--- e is stored and a prefix of k, and no stored prefix of k is wider
-pub record Longest (k : Bits) (m : Map) (e : Entry) : Type 0 where
-  pub stored : List·Memᴰ e m
-  pub prefix : T (isPrefix (e .key) k)
-  pub widest : (f : Entry) → List·Memᴰ f m → T (isPrefix (f .key) k) → length (f .key) ≤ length (e .key)
 
 -- e is one of m, and none is wider
 record Widest (m : Map) (e : Entry) : Type 0 where

@@ -8,12 +8,13 @@
 --   put e m             m after storing e
 --   without k m         m after removing k
 --   longestMatch k m    the entry with the longest stored prefix of k, if there is one
+--   Longest k m e       what makes e that entry: no stored prefix of k is wider
 -- Assumes nothing.
-use Prim.Native.Nat.{ℕ}
+use Prim.Native.Nat.{ℕ, _≤_}
 use mathlib.Core.Bool.{Bool, not, cond}
-use mathlib.Core.List.{List, [], _∷_, map}
+use mathlib.Core.List.{List, [], _∷_, map, List·Memᴰ}
 use mathlib.Core.Option.{Option, none, some}
-use lib.Dec.{leb}
+use lib.Dec.{T, leb}
 use lib.ListN.{length}
 use Rattle.bits.specs.Lists.{keep}
 use Rattle.bits.specs.Bits.{Bits, order, equal, isPrefix, rising}
@@ -63,3 +64,10 @@ widest (e ∷ m) = wider e (widest m)
 -- "the longest stored prefix of the key"
 unfoldable pub longestMatch : Bits → Map → Option Entry
 longestMatch k m = widest (keep (λ e. isPrefix (e .key) k) m)
+
+-- (the same as facts: e is stored and a prefix of k, and no stored prefix of k is wider; the laws
+-- `longestMatch-some` and `longest-longestMatch` say that the two agree)
+pub record Longest (k : Bits) (m : Map) (e : Entry) : Type 0 where
+  pub stored : List·Memᴰ e m
+  pub prefix : T (isPrefix (e .key) k)
+  pub widest : (f : Entry) → List·Memᴰ f m → T (isPrefix (f .key) k) → length (f .key) ≤ length (e .key)
