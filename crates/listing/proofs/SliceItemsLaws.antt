@@ -17,7 +17,7 @@ use Rattle.bits.proofs.ListsLaws.{any-append, any-mem, mem-any, or-left, mem-ma
 use Rattle.bits.proofs.BitsLaws.{lcp-left}
 use Rattle.bits.proofs.RisingLaws.{rising-keep, rising-left, rising-parts, not-after-lastOr}
 use Rattle.zones.specs.Maps.{Map, keys}
-use Rattle.zones.specs.Slices.{after, left, given, remains, passed}
+use Rattle.zones.specs.Slices.{after, left, given, remains, passes, passed}
 use Rattle.zones.specs.Tree.{Tree, tip, node, Good, own, entries, strings}
 use Rattle.zones.proofs.MapsLaws.{keys-keep}
 use Rattle.zones.proofs.CountLaws.{after-prefix}
@@ -186,23 +186,26 @@ keysOf-keep f (i ∷ is) = rw (← keysOf-keep f is) (at (f (i .key)) (keep (λ 
     at true js = refl
     at false js = refl
 
-keep-and : (f g : Bits → Bool) (ps : List Bits) → keep (λ p. f p && g p) ps ≡ keep g (keep f ps)
+keep-and : (f g : Item → Bool) (is : List Item) → keep (λ i. f i && g i) is ≡ keep g (keep f is)
 keep-and f g [] = refl
-keep-and f g (p ∷ ps) = rw (keep-and f g ps) (at (f p))
+keep-and f g (i ∷ is) = rw (keep-and f g is) (at (f i))
   where
-    at : (b : Bool) → cond (b && g p) (p ∷ keep g (keep f ps)) (keep g (keep f ps)) ≡ keep g (cond b (p ∷ keep f ps) (keep f ps))
+    at : (b : Bool) → cond (b && g i) (i ∷ keep g (keep f is)) (keep g (keep f is)) ≡ keep g (cond b (i ∷ keep f is) (keep f is))
     at true = refl
     at false = refl
 
--- of an ascending list in two parts, those that do not come after the last of the first part are that part
-keep-not-after : (x : Bits) (ps qs : List Bits) → T (rising (x ∷ (ps ++ qs)))
-    → keep (λ p. not (before (lastOr x ps) p)) (x ∷ (ps ++ qs)) ≡ x ∷ ps
-keep-not-after x ps qs h =
-    let z : Bits = lastOr x ps in
-    let f : Bits → Bool = λ p. not (before z p) in
-    let l = keep-every f (x ∷ ps) (λ a i. not-T (before z a) (not-after-lastOr x ps (rising-left (x ∷ ps) qs h) a i)) in
-    let r = keep-none f qs (λ a i k. T-not (before z a) k (rising-parts (x ∷ ps) qs h z a (mem-lastOr x ps) i)) in
-    keep-append f (x ∷ ps) qs ∙ ap₂ _++_ l r ∙ append-nil (x ∷ ps)
+-- of ascending items in two parts, those that do not come after the last of the first part are that part
+keep-not-after : (i : Item) (is js : List Item) → T (rising (keysOf (i ∷ is) ++ keysOf js))
+    → keep (λ j. not (before (lastOr (i .key) (keysOf is)) (j .key))) (i ∷ (is ++ js)) ≡ i ∷ is
+keep-not-after i is js h =
+    let ks : List Bits = keysOf (i ∷ is) in
+    let z : Bits = lastOr (i .key) (keysOf is) in
+    let f : Item → Bool = λ j. not (before z (j .key)) in
+    let l = keep-every f (i ∷ is) (λ j o. not-T (before z (j .key))
+    (not-after-lastOr (i .key) (keysOf is) (rising-left ks (keysOf js) h) (j .key) (mem-map (λ x. x .key) o))) in
+    let r = keep-none f js (λ j o k. T-not (before z (j .key)) k
+    (rising-parts ks (keysOf js) h z (j .key) (mem-lastOr (i .key) (keysOf is)) (mem-map (λ x. x .key) o))) in
+    keep-append f (i ∷ is) js ∙ ap₂ _++_ l r ∙ append-nil (i ∷ is)
 
 module _ (p : Bits) (t : Tree ℕ) (g : Good p t) (r : Option Bits) (b : ℕ) where
   abbrev is : List Item
@@ -225,21 +228,28 @@ module _ (p : Bits) (t : Tree ℕ) (g : Good p t) (r : Option Bits) (b : ℕ) wh
       ap not (isEmpty-storedIn (past b is) (closed-past b is closed-is) ∙ ap isEmpty (sym (drop-storedIn b is)))
       ∙ ap (λ (m : Map). not (isEmpty (drop b m))) storedIn-left
 
-  strings-after : keep (after r) (strings t) ≡ keysOf (upTo b is) ++ keysOf (past b is)
-  strings-after =
-      rw (← keys-items t) (sym (keysOf-keep (after r) (items t))) ∙ ap keysOf (sym (upTo-past b is))
-      ∙ map-append (λ (i : Item). i .key) (upTo b is) (past b is)
+  last-given : last (keysOf (upTo b is)) ≡ last (keys (given (entries t) r b))
+  last-given = sym (last-upTo b is closed-is) ∙ ap (λ (m : Map). last (keys m)) (sym (take-storedIn b is) ∙ given-items)
 
-  passed-last : (ps qs : List Bits) → T (rising (ps ++ qs)) → keep (after r) (strings t) ≡ ps ++ qs
-      → length ps ≡ passed (entries t) r (last ps)
-  unfolding passed
-  passed-last [] qs h e = refl
-  passed-last (x ∷ ps) qs h e =
-      sym (rw (nodes-entries p t g, keep-and (after r) (λ a. not (before (lastOr x ps) a)) (strings t), e, keep-not-after x ps qs h))
+  rising-is : T (rising (keysOf (upTo b is) ++ keysOf (past b is)))
+  rising-is =
+      let all : keysOf is ≡ keep (after r) (strings t) = keysOf-keep (after r) (items t) ∙ ap (keep (after r)) (keys-items t) in
+      rw (← map-append (λ (i : Item). i .key) (upTo b is) (past b is), upTo-past b is, all)
+      (rising-keep (after r) (strings t) (rising-strings p t g))
+
+  passes-last : (js ks : List Item) → T (rising (keysOf js ++ keysOf ks)) → is ≡ js ++ ks
+      → keep (λ i. passes r (last (keysOf js)) (i .key)) (items t) ≡ js
+  passes-last [] ks h e = keep-none (λ i. false) (items t) (λ i j k. k)
+  passes-last (j ∷ js) ks h e =
+      keep-and (λ i. after r (i .key)) (λ i. not (before (lastOr (j .key) (keysOf js)) (i .key))) (items t)
+      ∙ rw e (keep-not-after j js ks h)
+
+  -- the items up to the b-th stored one are those that pass
+  pub passes-items : keep (λ i. passes r (last (keys (given (entries t) r b))) (i .key)) (items t) ≡ upTo b is
+  passes-items = rw (← last-given) (passes-last (upTo b is) (past b is) rising-is (sym (upTo-past b is)))
 
   pub passed-items : length (upTo b is) ≡ passed (entries t) r (last (keys (given (entries t) r b)))
+  unfolding passed
   passed-items =
-      let h : T (rising (keysOf (upTo b is) ++ keysOf (past b is))) =
-      rw (← strings-after) (rising-keep (after r) (strings t) (rising-strings p t g)) in
-      sym (length-map (upTo b is) (λ (i : Item). i .key)) ∙ passed-last (keysOf (upTo b is)) (keysOf (past b is)) h strings-after
-      ∙ ap (passed (entries t) r) (sym (last-upTo b is closed-is) ∙ ap (λ (m : Map). last (keys m)) (sym (take-storedIn b is) ∙ given-items))
+      let f : Bits → Bool = passes r (last (keys (given (entries t) r b))) in
+      rw (nodes-entries p t g, ← keys-items t, ← keysOf-keep f (items t), passes-items) (sym (length-map (upTo b is) (λ (i : Item). i .key)))

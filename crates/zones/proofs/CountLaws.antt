@@ -2,15 +2,16 @@
 -- each is at most 129 + 129b. No contract cites this file.
 -- Assumes nothing.
 use Prim.Native.Nat.{ℕ, _+_, _*_, _≤_, zero-le}
+use native.Mathlib.Nat.{add-comm}
 use native.Mathlib.Omega.{arith}
 use mathlib.Core.Path.{_≡_, refl, ap, _∙_}
 use mathlib.Core.Logic.{inl, inr}
-use mathlib.Core.Bool.{false, not, _&&_}
+use mathlib.Core.Bool.{false, not}
 use mathlib.Core.List.{List, [], _∷_, List·Memᴰ, List·Memᴰ·head, List·Memᴰ·tail}
 use mathlib.Core.Option.{Option, none, some}
 use borrow.Author.Tests.{leb-true}
 use lib.Dec.{T, leb}
-use lib.ListN.{length}
+use lib.ListN.{length, length-append}
 use Rattle.bits.specs.Lists.{any, all, keep, last, lastOr}
 use Rattle.bits.specs.Bits.{Bits, isPrefix, before}
 use Rattle.bits.proofs.ListsLaws.{T-true, and-left, and-right, mem-any, mem-all, all-lastOr, mem-lastOr, keep-none, keep-every}
@@ -18,7 +19,7 @@ use Rattle.bits.proofs.ListsLaws.{length-keep-or, length-keep-imp, length-keep-
 use Rattle.bits.proofs.BitsLaws.{lcp-left, before-prefix, isPrefix-between}
 use Rattle.zones.specs.Maps.{Map, keys, ascending}
 use Rattle.zones.specs.Nodes.{nodes}
-use Rattle.zones.specs.Slices.{after, remains, passed, found, count, Turn, turns, nextAt, next, counted, pathed, ended}
+use Rattle.zones.specs.Slices.{after, given, remains, passes, passed, wayTo, found, count, countedNodes, Turn, turns, nextAt, next, counted, pathed, ended}
 use Rattle.zones.proofs.NodesLaws.{Node, mem-nodes}
 use Rattle.zones.proofs.PathLaws.{length-path, length-prefixNodes}
 use Rattle.zones.proofs.SlicesLaws.{after-trans, givenKeys, length-givenKeys, givenKeys-stored, givenKeys-after, given-or-rest}
@@ -36,6 +37,10 @@ node-prefix s p n = rw (n .is) (lcp-left (n .one) (n .two))
 
 -- ---- passed
 
+passed-none : (m : Map) (r : Option Bits) → passed m r none ≡ 0
+unfolding passed
+passed-none m r = ap length (keep-none (passes r none) (nodes (keys m)) (λ p i k. k))
+
 -- the nodes after the resume are those that the slice passes and those after the next resume
 passed-next : (r : Option Bits) (t : Turn)
     → passed (t .stored) r (last (givenKeys r t)) + length (keep (after (next r t)) (nodes (keys (t .stored))))
@@ -46,7 +51,7 @@ passed-next r t = at (givenKeys r t) (mem-all (after r) (givenKeys r t) (givenKe
     at : (g : List Bits) → T (all (after r) g)
         → passed (t .stored) r (last g) + length (keep (after (nextAt r (last g))) (nodes (keys (t .stored))))
         ≡ length (keep (after r) (nodes (keys (t .stored))))
-    at [] h = omega arith
+    at [] h = rw (passed-none (t .stored) r) (omega arith)
     at (x ∷ g) h =
         length-keep-split (after r) (before (lastOr x g)) (nodes (keys (t .stored)))
         (λ p k. after-trans r (lastOr x g) p (all-lastOr (after r) x g h) k)
@@ -83,6 +88,12 @@ counted-whole m bs h e =
 
 -- ---- count
 
+-- the count is how many nodes a slice counts
+pub length-countedNodes : (m : Map) (r : Option Bits) (b : ℕ) → length (countedNodes m r b) ≡ count m r b
+unfolding countedNodes count passed found
+length-countedNodes m r b =
+    length-append (wayTo m r) (keep (passes r (last (keys (given m r b)))) (nodes (keys m))) ∙ add-comm _ _
+
 -- the nodes that are prefixes of some of the strings g: at most 129 for each string
 length-prefixed : (s g : List Bits) → ((k : Bits) → List·Memᴰ k g → length k ≤ 128)
     → length (keep (λ p. any (isPrefix p) g) (nodes s)) ≤ 129 * length g
@@ -99,7 +110,7 @@ length-prefixed s (k ∷ g) h =
 -- a node that a slice passes is a prefix of one that it gives: of the last one, where the stored string that
 -- makes it a node remains
 passed-prefix : (r : Option Bits) (t : Turn) (x : Bits) (g : List Bits) → T (ascending (t .stored)) → givenKeys r t ≡ x ∷ g
-    → (p : Bits) → List·Memᴰ p (nodes (keys (t .stored))) → T (after r p && not (before (lastOr x g) p)) → T (any (isPrefix p) (givenKeys r t))
+    → (p : Bits) → List·Memᴰ p (nodes (keys (t .stored))) → T (passes r (some (lastOr x g)) p) → T (any (isPrefix p) (givenKeys r t))
 passed-prefix r t x g h e p i k =
     let n : Node (keys (t .stored)) p = mem-nodes (keys (t .stored)) p i in
     let z : Bits = lastOr x g in
@@ -117,11 +128,11 @@ unfolding passed
 passed-bound r t h w = at (givenKeys r t) refl
   where
     at : (g : List Bits) → givenKeys r t ≡ g → passed (t .stored) r (last g) ≤ 129 * length (givenKeys r t)
-    at [] e = zero-le
+    at [] e = rw (passed-none (t .stored) r) zero-le
     at (x ∷ g) e =
         omega (
           arith,
-          length-keep-imp (λ p. after r p && not (before (lastOr x g) p)) (λ p. any (isPrefix p) (givenKeys r t)) (nodes (keys (t .stored)))
+          length-keep-imp (passes r (some (lastOr x g))) (λ p. any (isPrefix p) (givenKeys r t)) (nodes (keys (t .stored)))
               (passed-prefix r t x g h e),
           length-prefixed (keys (t .stored)) (givenKeys r t) w,
         )

@@ -4,9 +4,12 @@
 --   left m r          what is stored after the resume prefix
 --   given m r b       what the slice gives
 --   remains m r b     some stored prefix remains after these
---   passed m r z      the nodes after the resume prefix and not after z
---   found m r         the length of the resume prefix's path
+--   passes r z p      p comes after the resume prefix and not after z, the last one listed
+--   passed m r z      how many nodes do
+--   wayTo m r         the resume prefix's path
+--   found m r         its length
 --   count m r b       the slice's count
+--   countedNodes m r b   the nodes that it counts
 --   Turn              one slice of a listing: the map as it then stands, and the size asked for
 --   turns m bs        slices of an unchanged map
 --   next r t          where the slice after t resumes, t having resumed at r
@@ -42,18 +45,30 @@ given m r b = take b (left m r)
 unfoldable pub remains : Map → Option Bits → ℕ → Bool
 remains m r b = not (isEmpty (drop b (left m r)))
 
--- "the number of nodes strictly after the resume prefix and not after the last one listed (0 if none listed)"
+-- "strictly after the resume prefix and not after the last one listed" (none where none is listed)
+abbrev pub passes : Option Bits → Option Bits → Bits → Bool
+passes r none p = false
+passes r (some z) p = after r p && not (before z p)
+
+-- "the number of nodes .. (0 if none listed)"
 unfoldable pub passed : Map → Option Bits → Option Bits → ℕ
-passed m r none = 0
-passed m r (some z) = length (keep (λ p. after r p && not (before z p)) (nodes (keys m)))
+passed m r z = length (keep (passes r z) (nodes (keys m)))
+
+-- "the resume prefix's path" (none if no resume is given)
+abbrev pub wayTo : Map → Option Bits → List Bits
+wayTo m none = []
+wayTo m (some r) = path (keys m) r
 
 -- "plus the length of the resume prefix's path (0 if no resume is given)"
 unfoldable pub found : Map → Option Bits → ℕ
-found m none = 0
-found m (some r) = length (path (keys m) r)
+found m r = length (wayTo m r)
 
 unfoldable pub count : Map → Option Bits → ℕ → ℕ
 count m r b = passed m r (last (keys (given m r b))) + found m r
+
+-- "the nodes it counts": those of the resume's path, and those passed (one that is both stands there twice)
+unfoldable pub countedNodes : Map → Option Bits → ℕ → List Bits
+countedNodes m r b = wayTo m r ++ keep (passes r (last (keys (given m r b)))) (nodes (keys m))
 
 -- ---- a listing of several slices, "each slice resuming at the last prefix given"; "Edits may come between slices"
 
