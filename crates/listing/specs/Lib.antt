@@ -1,2 +1,3 @@
 pub mod Touring
 pub mod Slicing
+pub mod Resting
