@@ -2,14 +2,12 @@
 -- header, in the records of the path's nodes and, for a store, in the first two spare records, they answer
 -- alike, leave the same trail and write the same words in the same places. Which of these records a plan
 -- looks at is said at the head of PlanRestsLaws. Paper 01, "The lent table". No contract cites this file.
---   SameEdit        two edits answer alike, leave the same trail, and write the same plan, if any
---   editLinks h k   the path's records, and the first two of the spare chain
 -- Assumes nothing.
 use Prim.Native.Nat.{ℕ, suc, _+_, _≤_}
 use native.Mathlib.Omega.{arith}
 use mathlib.Core.Path.{_≡_, refl}
 use mathlib.Core.Bool.{Bool, true, false, cond}
-use mathlib.Core.List.{List, [], _∷_, _++_, List·Memᴰ, List·Memᴰ·head, List·Memᴰ·tail, Memᴰ·append-left, Memᴰ·append-right}
+use mathlib.Core.List.{List, [], _∷_, List·Memᴰ, List·Memᴰ·head, List·Memᴰ·tail, Memᴰ·append-left, Memᴰ·append-right}
 use mathlib.Core.Logic.{_⊎_, inl, inr}
 use mathlib.Core.Option.{Option, none, some}
 use lib.Dec.{ltb, eqb}
@@ -38,14 +36,15 @@ use Rattle.lookup.proofs.SurveyLaws.{surveyOn-cases}
 use Rattle.lookup.proofs.RestsLaws.{surveyOn-rests}
 use Rattle.lookup.proofs.EndsLaws.{lowOf, Stood, StoodAt, EndedBy, Ended, surveyOn-ends}
 use Rattle.lookup.proofs.FramesLaws.{Along, AtTop, linkAt-path, below-path}
-use Rattle.plans.specs.Planning.{applied, spareOn, planStoreOn, planRemoveOn}
+use Rattle.plans.specs.Planning.{spareOn, planStoreOn, planRemoveOn}
 use Rattle.plans.specs.Plans.{Plan}
 use Rattle.plans.specs.Planned.{Planned}
 use Rattle.plans.specs.Planned as planned
 use Rattle.plans.specs.declared.Spare.{Spare}
 use Rattle.plans.specs.declared.Spare.the-variants as spare
-use Rattle.edits.specs.Storing.{Edit, storedBy, storedOf, storeOn}
+use Rattle.edits.specs.Storing.{storedBy, storedOf, storeOn}
 use Rattle.edits.specs.Removing.{removedBy, removedOf, removeOn}
+use Rattle.edits.specs.Resting.{written, SameEdit, editLinks}
 use Rattle.edits.specs.declared.Removal.the-variants.{Absent}
 use Rattle.grafts.proofs.PlanRestsLaws.{SameLook, SameLooks, lookOn-zero, lookOn-same, SameNext, sameNext-zero, sameNext-spareOn, wayLinks, storeLinks, planStoreOn-rests, removeLinks, planRemoveOn-rests}
 
@@ -152,28 +151,12 @@ sameLooks-store us ws k m h same s e x = (sameEnds-remove us ws s e x .0, at (eq
 
 -- ---- SameEdit
 
-abbrev pub written : List ℕ → Option Plan → List ℕ
-written ws none = ws
-written ws (some p) = applied ws p
-
--- the two edits answer alike, leave the same trail, and write the same plan, if any, into their memories
-pub record SameEdit {A : Type 0} (us ws : List ℕ) (x y : Edit A) : Type 0 where
-  pub answer : x .answer ≡ y .answer
-  pub bytes : x .bytes ≡ y .bytes
-  pub plan : Option Plan
-  pub left-words : x .words ≡ written us plan
-  pub right-words : y .words ≡ written ws plan
-
 -- an edit with the answer r and the bytes bs that writes the plan p, if any
 same-written : {A : Type 0} (us ws : List ℕ) (r : A) (bs : List ℕ) (p : Option Plan)
     → SameEdit us ws (record { answer = r; bytes = bs; words = written us p }) (record { answer = r; bytes = bs; words = written ws p })
 same-written us ws r bs p = record { answer = refl; bytes = refl; plan = p; left-words = refl; right-words = refl }
 
 -- ---- storeOn
-
--- the path's records, and the first two of the spare chain
-abbrev pub editLinks : {ws : List ℕ} {m : Map} → Holds ws m → Bits → List ℕ
-editLinks h k = pathLinks (h .tree) k ++ take 2 (h .chain)
 
 module _ (ws us : List ℕ) (k : Prefix) (z : ℕ) (bs : List ℕ) where
   storedBy-same : (ts : List ℕ) (n : ℕ) (s : Walk) (r : Planned)

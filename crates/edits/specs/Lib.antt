@@ -1,3 +1,4 @@
 pub mod Fresh
 pub mod Storing
 pub mod Removing
+pub mod Resting
