@@ -11,7 +11,8 @@ use lib.Dec.{T, leb·suc-suc}
 use lib.ListN.{length, take, drop}
 use borrow.Author.Tests.{lt-ltb, le-ltb}
 use Rattle.bits.specs.Bits.{Bits, isPrefix, order}
-use Rattle.bits.specs.Numbers.{clear, blank, numberOrder, orElse}
+use Rattle.bits.specs.Numbers.{clear, blank}
+use Rattle.bits.specs.Orders.{numberOrder, orElse}
 use Rattle.bits.specs.declared.Order.{Order}
 use Rattle.bits.specs.declared.Order.the-variants.{Before, Same, After}
 

@@ -8,7 +8,8 @@ use mathlib.Core.Bool.{Bool, true, false, not}
 use mathlib.Core.List.{[], _∷_, _++_}
 use lib.Dec.{T}
 use lib.ListN.{length, getD}
-use Rattle.bits.specs.Bits.{Bits, isPrefix, lcp, meet}
+use Rattle.bits.specs.Bits.{Bits, isPrefix, lcp}
+use Rattle.bits.specs.Meet.{meet}
 use Rattle.bits.specs.declared.Meeting.{Meeting}
 use Rattle.bits.specs.declared.Meeting.the-variants.{Equal, Below, Above, Apart}
 

@@ -17,7 +17,8 @@ use lib.Bits.{bitXor, xor-add-and, and-le-l, and-le-r, xor-shr, xor-self, xor-lt
 use lib.Count.{leadingZeros, leading-length}
 use borrow.Author.Tests.{eqb-true, eqb-false, ltb-true, ltb-false, eq-eqb, ne-eqb}
 use Rattle.bits.specs.Bits.{Bits, lcp, order}
-use Rattle.bits.specs.Numbers.{odd, bitsOf, clear, blank, numberOrder}
+use Rattle.bits.specs.Numbers.{odd, bitsOf, clear, blank}
+use Rattle.bits.specs.Orders.{numberOrder}
 use Rattle.bits.specs.declared.Order.the-variants.{Before, Same, After}
 use Rattle.bits.proofs.BitsLaws.{lcp-self, order-refl, order-flip, flip}
 use Rattle.bits.proofs.BlankLaws.{blank-append, blank-all}

@@ -7,15 +7,12 @@
 --   equal p k       p and k are the same string
 --   rising ps       each string comes strictly before all that follow it
 --   member p ps     p is one of the strings ps
---   meet s k        how the key k stands to the string s
 -- Assumes nothing.
 use mathlib.Core.Bool.{Bool, true, false, _&&_}
 use mathlib.Core.List.{List, [], _∷_}
 use Rattle.bits.specs.Lists.{all, any}
 use Rattle.bits.specs.declared.Order.{Order}
 use Rattle.bits.specs.declared.Order.the-variants.{Before, Same, After}
-use Rattle.bits.specs.declared.Meeting.{Meeting}
-use Rattle.bits.specs.declared.Meeting.the-variants.{Equal, Below, Above, Apart}
 
 abbrev pub Bits : Type 0
 Bits = List Bool
@@ -70,13 +67,3 @@ rising (p ∷ ps) = all (before p) ps && rising ps
 
 unfoldable pub member : Bits → List Bits → Bool
 member p ps = any (equal p) ps
-
--- (a walk goes on at a node below which the key lies, and stops at any other)
-abbrev pub meet : Bits → Bits → Meeting
-meet [] [] = Equal
-meet [] (x ∷ k) = Below x
-meet (x ∷ s) [] = Above x
-meet (false ∷ s) (false ∷ k) = meet s k
-meet (false ∷ s) (true ∷ k) = Apart true
-meet (true ∷ s) (false ∷ k) = Apart false
-meet (true ∷ s) (true ∷ k) = meet s k

@@ -5,17 +5,13 @@
 --   value k        the number that the string k is
 --   clear k        no bit of k is set
 --   blank n k      the first n bits of k, and a 0 for each other
---   numberOrder    the order of two numbers
---   orElse o u     the first order, and the second where the first settles nothing
 -- Assumes nothing.
 use Prim.Native.Nat.{ℕ, zero, suc, _+_, _*_, _/_, _%_, _^_}
-use mathlib.Core.Bool.{Bool, true, false, not, cond}
+use mathlib.Core.Bool.{Bool, true, false, not}
 use mathlib.Core.List.{[], _∷_}
-use lib.Dec.{eqb, ltb}
+use lib.Dec.{eqb}
 use Rattle.bits.specs.Lists.{all}
 use Rattle.bits.specs.Bits.{Bits}
-use Rattle.bits.specs.declared.Order.{Order}
-use Rattle.bits.specs.declared.Order.the-variants.{Before, Same, After}
 
 abbrev pub odd : ℕ → Bool
 odd x = eqb (x % 2) 1
@@ -43,11 +39,3 @@ abbrev pub blank : ℕ → Bits → Bits
 blank n [] = []
 blank zero (x ∷ k) = false ∷ blank zero k
 blank (suc n) (x ∷ k) = x ∷ blank n k
-
-abbrev pub numberOrder : ℕ → ℕ → Order
-numberOrder x y = cond (ltb x y) Before (cond (ltb y x) After Same)
-
-abbrev pub orElse : Order → Order → Order
-orElse Before o = Before
-orElse Same o = o
-orElse After o = After

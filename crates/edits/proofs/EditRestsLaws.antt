@@ -14,7 +14,8 @@ use lib.Dec.{ltb, eqb}
 use lib.ListN.{length, take, replicate}
 use lib.Seq.{paste}
 use borrow.Author.Tests.{ltb-false}
-use Rattle.bits.specs.Bits.{Bits, meet}
+use Rattle.bits.specs.Bits.{Bits}
+use Rattle.bits.specs.Meet.{meet}
 use Rattle.bits.specs.declared.Meeting.{Meeting}
 use Rattle.bits.specs.declared.Meeting.the-variants.{Equal, Below, Above, Apart}
 use Rattle.prefix.specs.Keys.{stringOf, Valid}

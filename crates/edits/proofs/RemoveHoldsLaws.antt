@@ -11,7 +11,8 @@ use mathlib.Core.Option.{Option, none, some, Option·none-ne-some}
 use lib.Dec.{eqb}
 use lib.ListN.{length, drop, replicate}
 use lib.Seq.{paste}
-use Rattle.bits.specs.Bits.{Bits, meet}
+use Rattle.bits.specs.Bits.{Bits}
+use Rattle.bits.specs.Meet.{meet}
 use Rattle.bits.specs.declared.Meeting.{Meeting}
 use Rattle.bits.specs.declared.Meeting.the-variants.{Equal, Above, Apart}
 use Rattle.bits.proofs.MeetLaws.{Says, meet-says}

@@ -11,7 +11,8 @@ use mathlib.Core.List.{List, [], _∷_, _++_, List·Memᴰ·tail}
 use mathlib.Core.Option.{Option, none, some}
 use lib.ListN.{length, length-append}
 use borrow.Author.Tests.{eq-eqb}
-use Rattle.bits.specs.Bits.{Bits, lcp, meet}
+use Rattle.bits.specs.Bits.{Bits, lcp}
+use Rattle.bits.specs.Meet.{meet}
 use Rattle.bits.specs.declared.Meeting.the-variants.{Equal, Above, Apart}
 use Rattle.bits.proofs.BitsLaws.{isPrefix-length, isPrefix-trans, isPrefix-append, lcp-comm, lcp-prefix}
 use Rattle.bits.proofs.MeetLaws.{Says, meet-says}

@@ -8,7 +8,8 @@ use mathlib.Core.List.{[], _∷_, _++_, List·Memᴰ, List·Memᴰ·head}
 use mathlib.Core.Option.{Option}
 use lib.Dec.{T}
 use Rattle.bits.specs.Lists.{any}
-use Rattle.bits.specs.Bits.{Bits, isPrefix, lcp, meet}
+use Rattle.bits.specs.Bits.{Bits, isPrefix, lcp}
+use Rattle.bits.specs.Meet.{meet}
 use Rattle.bits.specs.declared.Meeting.{Meeting}
 use Rattle.bits.specs.declared.Meeting.the-variants.{Equal, Below, Above, Apart}
 use Rattle.bits.proofs.ListsLaws.{T-true, or-left, or-right, or-cases, any-append, any-map, any-mem, mem-any, test-ext}

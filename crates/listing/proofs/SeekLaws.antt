@@ -11,7 +11,8 @@ use mathlib.Core.Option.{Option}
 use lib.Dec.{T}
 use lib.ListN.{length, length-append}
 use borrow.Author.Tests.{ne-eqb}
-use Rattle.bits.specs.Bits.{Bits, isPrefix, lcp, meet}
+use Rattle.bits.specs.Bits.{Bits, isPrefix, lcp}
+use Rattle.bits.specs.Meet.{meet}
 use Rattle.bits.specs.declared.Meeting.{Meeting}
 use Rattle.bits.specs.declared.Meeting.the-variants.{Equal, Below, Above, Apart}
 use Rattle.bits.proofs.BitsLaws.{isPrefix-length, lcp-greatest}

@@ -16,7 +16,8 @@ use mathlib.Core.Logic.{_⊎_, inl, inr}
 use mathlib.Core.Option.{Option}
 use lib.Dec.{T}
 use lib.ListN.{length, getD, length-append}
-use Rattle.bits.specs.Bits.{Bits, isPrefix, meet}
+use Rattle.bits.specs.Bits.{Bits, isPrefix}
+use Rattle.bits.specs.Meet.{meet}
 use Rattle.bits.specs.declared.Meeting.{Meeting}
 use Rattle.bits.specs.declared.Meeting.the-variants.{Equal, Below, Above, Apart}
 use Rattle.bits.proofs.BitsLaws.{isPrefix-length}

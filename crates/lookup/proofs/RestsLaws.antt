@@ -11,7 +11,8 @@ use mathlib.Core.Option.{Option}
 use lib.Dec.{ltb, eqb}
 use lib.ListN.{length, set, replicate}
 use borrow.Author.Tests.{ltb-false}
-use Rattle.bits.specs.Bits.{Bits, meet}
+use Rattle.bits.specs.Bits.{Bits}
+use Rattle.bits.specs.Meet.{meet}
 use Rattle.bits.specs.declared.Meeting.{Meeting}
 use Rattle.bits.specs.declared.Meeting.the-variants.{Equal, Below, Above, Apart}
 use Rattle.bits.proofs.MeetLaws.{Says, meet-says}

@@ -8,7 +8,8 @@ use Prim.Native.Nat.{ℕ}
 use mathlib.Core.Path.{_≡_}
 use mathlib.Core.List.{List, [], _∷_, List·Memᴰ}
 use lib.ListN.{length}
-use Rattle.bits.specs.Bits.{Bits, meet}
+use Rattle.bits.specs.Bits.{Bits}
+use Rattle.bits.specs.Meet.{meet}
 use Rattle.zones.specs.Tree.{Tree, tip, node, onward}
 use Rattle.records.specs.Layout.{recordAt, headerAt}
 

@@ -11,8 +11,10 @@ use lib.Dec.{eqb, leb}
 use lib.ListN.{length, getD, take, drop, length-take, length-drop, drop-of-length-le}
 use lib.Seq.{take-take, getD-take}
 use borrow.Author.Tests.{le-leb, lt-leb, leb-true, eq-eqb, ne-eqb}
-use Rattle.bits.specs.Bits.{lcp, order, isPrefix, meet}
-use Rattle.bits.specs.Numbers.{bitsOf, value, clear, blank, numberOrder, orElse}
+use Rattle.bits.specs.Bits.{lcp, order, isPrefix}
+use Rattle.bits.specs.Meet.{meet}
+use Rattle.bits.specs.Numbers.{bitsOf, value, clear, blank}
+use Rattle.bits.specs.Orders.{numberOrder, orElse}
 use Rattle.bits.specs.declared.Meeting.the-variants.{Equal, Below, Above, Apart}
 use Rattle.bits.proofs.BitsLaws.{length-lcp-take, isPrefix-lcp}
 use Rattle.bits.proofs.MeetLaws.{meet-apart, meet-above, meet-below, meet-equal}

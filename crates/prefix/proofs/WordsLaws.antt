@@ -8,7 +8,8 @@ use mathlib.Core.Bool.{Bool}
 use mathlib.Core.List.{[], _∷_, _++_}
 use lib.ListN.{length, length-append}
 use Rattle.bits.specs.Bits.{Bits, order}
-use Rattle.bits.specs.Numbers.{bitsOf, blank, numberOrder, orElse}
+use Rattle.bits.specs.Numbers.{bitsOf, blank}
+use Rattle.bits.specs.Orders.{numberOrder, orElse}
 use Rattle.bits.proofs.BlankLaws.{blank-append, order-append}
 use Rattle.bits.proofs.NumbersLaws.{length-bitsOf, bitsOf-inj, order-bitsOf}
 use Rattle.prefix.specs.Keys.{wordBits}

@@ -8,8 +8,9 @@ ghost use mathlib.Core.Bool.{false};
 ghost use mathlib.Core.List.{_++_};
 ghost use lib.ListN.{length, getD, drop};
 ghost use Rattle.bits.specs.Bits.{lcp, order, isPrefix};
-ghost use Rattle.bits.specs.Bits.{meet as meetOf};
-ghost use Rattle.bits.specs.Numbers.{bitsOf, clear, blank, numberOrder, orElse};
+ghost use Rattle.bits.specs.Meet.{meet as meetOf};
+ghost use Rattle.bits.specs.Numbers.{bitsOf, clear, blank};
+ghost use Rattle.bits.specs.Orders.{numberOrder, orElse};
 ghost use Rattle.prefix.specs.Keys.{wordBits, stringOf, Valid, Validity, Shared, Cut, High, Low, Parting};
 
 // The four words have the highest bits first. A value may be any width and any words: `valid` says

@@ -8,7 +8,8 @@ use mathlib.Core.List.{[], _∷_, _++_, append-nil}
 use mathlib.Core.Option.{Option, none, some}
 use lib.Dec.{T}
 use Rattle.bits.specs.Lists.{keep, last, lastOr}
-use Rattle.bits.specs.Bits.{Bits, isPrefix, equal, meet}
+use Rattle.bits.specs.Bits.{Bits, isPrefix, equal}
+use Rattle.bits.specs.Meet.{meet}
 use Rattle.bits.specs.declared.Meeting.{Meeting}
 use Rattle.bits.specs.declared.Meeting.the-variants.{Equal, Below, Above, Apart}
 use Rattle.bits.proofs.ListsLaws.{keep-none, keep-every}

@@ -8,7 +8,8 @@ use mathlib.Core.Bool.{Bool, true, false}
 use mathlib.Core.List.{[], _∷_, _++_, append-nil, List·Memᴰ, List·Memᴰ·head, List·Memᴰ·tail, List·Memᴰ·append-cases}
 use mathlib.Core.Option.{Option, none, some}
 use lib.Dec.{T}
-use Rattle.bits.specs.Bits.{Bits, isPrefix, lcp, order, isBefore, before, meet}
+use Rattle.bits.specs.Bits.{Bits, isPrefix, lcp, order, isBefore, before}
+use Rattle.bits.specs.Meet.{meet}
 use Rattle.bits.specs.declared.Order.{Order}
 use Rattle.bits.specs.declared.Order.the-variants.{Before, Same, After}
 use Rattle.bits.specs.declared.Meeting.{Meeting}

@@ -8,7 +8,8 @@ use mathlib.Core.List.{[], _∷_, _++_, append-nil}
 use mathlib.Core.Option.{Option}
 use lib.Dec.{T}
 use Rattle.bits.specs.Lists.{all, keep}
-use Rattle.bits.specs.Bits.{Bits, isPrefix, before, rising, meet}
+use Rattle.bits.specs.Bits.{Bits, isPrefix, before, rising}
+use Rattle.bits.specs.Meet.{meet}
 use Rattle.bits.specs.declared.Meeting.the-variants.{Equal}
 use Rattle.bits.proofs.ListsLaws.{and-left, and-right, all-mem, keep-none, keep-every}
 use Rattle.bits.proofs.BitsLaws.{longer-irrefl, one-side}

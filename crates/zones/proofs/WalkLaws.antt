@@ -12,7 +12,8 @@ use borrow.Author.Tests.{ne-eqb, eq-eqb, le-leb}
 use lib.Dec.{T, eqb, leb}
 use lib.ListN.{length, take, length-append}
 use Rattle.bits.specs.Lists.{any, all, keep, last, lastOr}
-use Rattle.bits.specs.Bits.{Bits, isPrefix, lcp, meet}
+use Rattle.bits.specs.Bits.{Bits, isPrefix, lcp}
+use Rattle.bits.specs.Meet.{meet}
 use Rattle.bits.specs.declared.Meeting.{Meeting}
 use Rattle.bits.specs.declared.Meeting.the-variants.{Equal, Below, Above, Apart}
 use Rattle.bits.proofs.ListsLaws.{T-true, and-left, and-right, and-both, test-ext, mem-any, mem-all, all-keep, all-lastOr, keep-none, keep-every, keep-append}

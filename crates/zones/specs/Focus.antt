@@ -10,7 +10,8 @@
 use Prim.Native.Nat.{ℕ, zero, suc}
 use mathlib.Core.Bool.{Bool, true, false}
 use mathlib.Core.Option.{Option}
-use Rattle.bits.specs.Bits.{Bits, meet}
+use Rattle.bits.specs.Bits.{Bits}
+use Rattle.bits.specs.Meet.{meet}
 use Rattle.zones.specs.Tree.{Tree, tip, node, onward, collapse}
 
 pub data Context (A : Type 0) : Type 0 where
