@@ -19,7 +19,8 @@ use Rattle.bits.proofs.BitsLaws.{eq-equal}
 use Rattle.bits.proofs.RisingLaws.{length-keep-equal}
 use Rattle.prefix.specs.Keys.{stringOf, Valid}
 use Rattle.zones.specs.Maps.{Map}
-use Rattle.zones.specs.Tree.{Tree, tip, node, Good, entries, strings}
+use Rattle.zones.specs.Tree.{Tree, tip, node, Good, entries}
+use Rattle.zones.specs.Searching.{strings}
 use Rattle.zones.proofs.TreeLaws.{rising-strings}
 use Rattle.records.specs.Layout.{tableLength, isTable, capacity, recordAt, headerAt, keyOf, isSpare}
 use Rattle.records.specs.Holds.{labels, Linked, times, Holds}

@@ -20,7 +20,9 @@ use Rattle.prefix.specs.Keys.{stringOf, Valid}
 use Rattle.prefix.specs.declared.Prefix.{Prefix}
 use Rattle.zones.specs.Maps.{Map, keys, get, without}
 use Rattle.zones.specs.Nodes.{path, trail}
-use Rattle.zones.specs.Tree.{Tree, tip, node, onward, find, removeHere, removeTree}
+use Rattle.zones.specs.Tree.{Tree, tip, node}
+use Rattle.zones.specs.Searching.{onward, find}
+use Rattle.zones.specs.TreeEdits.{removeHere, removeTree}
 use Rattle.zones.specs.Focus.{Context, top, plug, pull, focus}
 use Rattle.zones.proofs.MapsLaws.{without-none}
 use Rattle.zones.proofs.FindLaws.{get-entries}

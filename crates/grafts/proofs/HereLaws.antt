@@ -12,7 +12,8 @@ use Rattle.bits.specs.Bits.{Bits}
 use Rattle.prefix.specs.Keys.{stringOf}
 use Rattle.prefix.specs.declared.Prefix.{Prefix}
 use Rattle.zones.specs.Maps.{Map, put}
-use Rattle.zones.specs.Tree.{Tree, node, putTree}
+use Rattle.zones.specs.Tree.{Tree, node}
+use Rattle.zones.specs.TreeEdits.{putTree}
 use Rattle.zones.specs.Focus.{Context}
 use Rattle.records.specs.Layout.{place, recordAt, headerAt}
 use Rattle.records.specs.Holds.{labels, Linked, Chained, times, Holds}

@@ -16,7 +16,8 @@ use Rattle.prefix.specs.Keys.{stringOf, cutOf}
 use Rattle.prefix.specs.declared.Prefix.{Prefix}
 use Rattle.prefix.proofs.KeysLaws.{length-stringOf}
 use Rattle.zones.specs.Maps.{Map, put}
-use Rattle.zones.specs.Tree.{Tree, tip, node, putTree}
+use Rattle.zones.specs.Tree.{Tree, tip, node}
+use Rattle.zones.specs.TreeEdits.{putTree}
 use Rattle.zones.specs.Focus.{Context, joined}
 use Rattle.records.specs.Layout.{recordAt, headerAt, sideOf}
 use Rattle.records.specs.Holds.{Bears, Linked, Chained, Holds}

@@ -16,7 +16,9 @@ use Rattle.prefix.specs.declared.Prefix.{Prefix}
 use Rattle.prefix.proofs.KeysLaws.{valid-cutOf, stringOf-cutOf}
 use Rattle.zones.specs.Maps.{Map, keys, put}
 use Rattle.zones.specs.Nodes.{nodes, overflows}
-use Rattle.zones.specs.Tree.{Tree, Good, entries, strings, putTree}
+use Rattle.zones.specs.Tree.{Tree, Good, entries}
+use Rattle.zones.specs.Searching.{strings}
+use Rattle.zones.specs.TreeEdits.{putTree}
 use Rattle.zones.specs.Focus.{Context, plug}
 use Rattle.zones.proofs.PutLaws.{good-putTree, entries-putTree, nodes-put}
 use Rattle.records.specs.Layout.{capacity, recordAt, headerAt, zoneOf}

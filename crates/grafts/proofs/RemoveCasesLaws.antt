@@ -14,7 +14,8 @@ use Rattle.bits.specs.Bits.{Bits}
 use Rattle.prefix.specs.Keys.{stringOf, Valid}
 use Rattle.prefix.specs.declared.Prefix.{Prefix}
 use Rattle.zones.specs.Maps.{Map, without}
-use Rattle.zones.specs.Tree.{Tree, tip, node, full, Good, entries, collapse, removeTree}
+use Rattle.zones.specs.Tree.{Tree, tip, node, full, Good, entries}
+use Rattle.zones.specs.TreeEdits.{collapse, removeTree}
 use Rattle.zones.specs.Focus.{Context, top, into, joined, plug, pull, linkAt}
 use Rattle.zones.proofs.FocusLaws.{GoodAbove, good-plug, pull-full, pull-stored, pull-branch}
 use Rattle.zones.proofs.RemoveLaws.{good-removeTree, entries-removeTree}

@@ -21,7 +21,8 @@ use Rattle.prefix.specs.declared.Prefix.{Prefix}
 use Rattle.prefix.proofs.KeysLaws.{length-stringOf}
 use Rattle.zones.specs.Maps.{Map, put}
 use Rattle.zones.specs.Nodes.{overflows}
-use Rattle.zones.specs.Tree.{Tree, tip, node, putTree}
+use Rattle.zones.specs.Tree.{Tree, tip, node}
+use Rattle.zones.specs.TreeEdits.{putTree}
 use Rattle.zones.specs.Focus.{Context, joined, linkAt}
 use Rattle.records.specs.Layout.{capacity, roomOf, recordAt, headerAt}
 use Rattle.records.specs.Holds.{labels, Bears, Linked, Holds}

@@ -14,7 +14,8 @@ use Rattle.bits.specs.Bits.{Bits, isPrefix}
 use Rattle.bits.proofs.ListsLaws.{T-true}
 use Rattle.bits.proofs.BitsLaws.{isPrefix-refl, isPrefix-trans, isPrefix-length, isPrefix-append, take-isPrefix, length-lcp}
 use Rattle.zones.specs.Maps.{Entry, keys}
-use Rattle.zones.specs.Tree.{Tree, tip, node, full, Good, entries, strings, better, best}
+use Rattle.zones.specs.Tree.{Tree, tip, node, full, Good, entries}
+use Rattle.zones.specs.Searching.{strings, better, best}
 use Rattle.zones.proofs.TreeLaws.{mem-strings}
 use Rattle.zones.proofs.FindLaws.{longestMatch-entries}
 use Rattle.zones.proofs.ShapeLaws.{meet-refl}

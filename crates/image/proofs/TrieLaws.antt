@@ -17,7 +17,8 @@ use Rattle.bits.proofs.ListsLaws.{T-true, or-left, or-right, or-cases, any-map,
 use Rattle.bits.proofs.BitsLaws.{isPrefix-refl, isPrefix-trans, isPrefix-length, isPrefix-append, equal-true, equal-refl}
 use Rattle.bits.proofs.RisingLaws.{rising-ext, member-mem}
 use Rattle.zones.specs.Maps.{Map, keys, longestMatch}
-use Rattle.zones.specs.Tree.{Tree, tip, node, Good, strings}
+use Rattle.zones.specs.Tree.{Tree, tip, node, Good}
+use Rattle.zones.specs.Searching.{strings}
 use Rattle.zones.proofs.NodesLaws.{member-inOrder, rising-inOrder}
 use Rattle.zones.proofs.TreeLaws.{rising-strings}
 use Rattle.image.specs.Image.{properPrefixes, imageNodes}

@@ -20,7 +20,8 @@ use Rattle.bits.proofs.MeetLaws.{Says, meet-says}
 use Rattle.prefix.specs.Keys.{stringOf, Valid}
 use Rattle.prefix.specs.declared.Prefix.{Prefix}
 use Rattle.prefix.proofs.KeysLaws.{length-stringOf}
-use Rattle.zones.specs.Tree.{Tree, tip, node, Good, onward, walk}
+use Rattle.zones.specs.Tree.{Tree, tip, node, Good}
+use Rattle.zones.specs.Searching.{onward, walk}
 use Rattle.records.specs.Layout.{recordAt}
 use Rattle.records.proofs.LayoutLaws.{roomOf-zero}
 use Rattle.listing.specs.Touring.{Stack, pushOn, soughtOn, Seeking, afterOn, seekOn}

@@ -18,7 +18,8 @@ use Rattle.bits.proofs.BitsLaws.{lcp-left}
 use Rattle.bits.proofs.RisingLaws.{rising-keep, rising-left, rising-parts, not-after-lastOr}
 use Rattle.zones.specs.Maps.{Map, keys}
 use Rattle.zones.specs.Slices.{after, left, given, remains, passes, passed}
-use Rattle.zones.specs.Tree.{Tree, tip, node, Good, own, entries, strings}
+use Rattle.zones.specs.Tree.{Tree, tip, node, Good, own, entries}
+use Rattle.zones.specs.Searching.{strings}
 use Rattle.zones.proofs.MapsLaws.{keys-keep}
 use Rattle.zones.proofs.CountLaws.{after-prefix}
 use Rattle.zones.proofs.TreeLaws.{keys-append, begin-strings, rising-strings, mem-strings, nodes-entries}

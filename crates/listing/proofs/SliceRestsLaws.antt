@@ -13,7 +13,8 @@ use Rattle.prefix.specs.Keys.{stringOf}
 use Rattle.zones.specs.Maps.{Map, keys}
 use Rattle.zones.specs.Nodes.{nodes}
 use Rattle.zones.specs.Slices.{given, passes, wayTo, count, countedNodes}
-use Rattle.zones.specs.Tree.{Tree, tip, node, entries, strings}
+use Rattle.zones.specs.Tree.{Tree, tip, node, entries}
+use Rattle.zones.specs.Searching.{strings}
 use Rattle.zones.proofs.CountLaws.{length-countedNodes}
 use Rattle.zones.proofs.TreeLaws.{nodes-entries}
 use Rattle.records.specs.Layout.{recordAt, headerAt, keyOf}

@@ -14,7 +14,8 @@ use Rattle.bits.proofs.ListsLaws.{keep-every}
 use Rattle.prefix.specs.Keys.{stringOf, Valid}
 use Rattle.prefix.specs.declared.Prefix.{Prefix}
 use Rattle.zones.specs.Maps.{Map}
-use Rattle.zones.specs.Tree.{Tree, walk}
+use Rattle.zones.specs.Tree.{Tree}
+use Rattle.zones.specs.Searching.{walk}
 use Rattle.zones.specs.Slices.{after, found}
 use Rattle.records.specs.Layout.{recordAt, headerAt}
 use Rattle.records.specs.Holds.{Holds}

@@ -19,7 +19,8 @@ use Rattle.bits.proofs.BitsLaws.{isPrefix-length, lcp-greatest}
 use Rattle.bits.proofs.MeetLaws.{Says, meet-says}
 use Rattle.prefix.specs.Keys.{stringOf, Valid}
 use Rattle.prefix.specs.declared.Prefix.{Prefix}
-use Rattle.zones.specs.Tree.{Tree, tip, node, Good, onward}
+use Rattle.zones.specs.Tree.{Tree, tip, node, Good}
+use Rattle.zones.specs.Searching.{onward}
 use Rattle.records.specs.Layout.{recordAt}
 use Rattle.lookup.specs.Paths.{pathLinks}
 use Rattle.listing.specs.Touring.{pushOn, soughtOn, Seeking, afterOn, seekOn, visitOn, entryPut, turnOn, tourOn, tourFrom}

@@ -26,7 +26,8 @@ use Rattle.prefix.specs.declared.Prefix.{Prefix}
 use Rattle.prefix.proofs.KeysLaws.{valid-isValid}
 use Rattle.zones.specs.Maps.{Map, keys}
 use Rattle.zones.specs.Nodes.{path}
-use Rattle.zones.specs.Tree.{Tree, tip, node, onward, walk, best}
+use Rattle.zones.specs.Tree.{Tree, tip, node}
+use Rattle.zones.specs.Searching.{onward, walk, best}
 use Rattle.zones.specs.Focus.{Context, top, into, Focus, focus, linkAt}
 use Rattle.records.specs.Layout.{recordAt}
 use Rattle.records.specs.Holds.{labels, Linked, Holds}

@@ -26,7 +26,8 @@ use Rattle.prefix.specs.Keys.{stringOf, Valid}
 use Rattle.prefix.specs.declared.Prefix.{Prefix}
 use Rattle.prefix.proofs.KeysLaws.{length-stringOf}
 use Rattle.zones.specs.Maps.{Map}
-use Rattle.zones.specs.Tree.{Tree, tip, node, onward}
+use Rattle.zones.specs.Tree.{Tree, tip, node}
+use Rattle.zones.specs.Searching.{onward}
 use Rattle.zones.specs.Focus.{Context, top, into, Focus, focus, linkAt}
 use Rattle.records.specs.Layout.{roomOf, recordAt, headerAt}
 use Rattle.records.specs.Holds.{labels, Bears, Linked, Holds}

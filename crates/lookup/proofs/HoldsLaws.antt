@@ -23,7 +23,8 @@ use Rattle.prefix.specs.declared.Prefix.{Prefix}
 use Rattle.prefix.proofs.KeysLaws.{length-stringOf, valid-isValid}
 use Rattle.zones.specs.Maps.{Entry, Map, keys, get, longestMatch}
 use Rattle.zones.specs.Nodes.{path, trail}
-use Rattle.zones.specs.Tree.{Tree, tip, node, onward, walk, find, better, best}
+use Rattle.zones.specs.Tree.{Tree, tip, node}
+use Rattle.zones.specs.Searching.{onward, walk, find, better, best}
 use Rattle.zones.proofs.PathLaws.{length-path}
 use Rattle.zones.proofs.WalkLaws.{path-entries}
 use Rattle.zones.proofs.FindLaws.{get-entries, longestMatch-entries}

@@ -23,7 +23,8 @@ use Rattle.prefix.specs.Keys.{stringOf, Valid}
 use Rattle.prefix.specs.declared.Prefix.{Prefix}
 use Rattle.prefix.proofs.KeysLaws.{length-stringOf}
 use Rattle.zones.specs.Maps.{Entry}
-use Rattle.zones.specs.Tree.{Tree, tip, node, Good, onward, walk, better, best}
+use Rattle.zones.specs.Tree.{Tree, tip, node, Good}
+use Rattle.zones.specs.Searching.{onward, walk, better, best}
 use Rattle.records.specs.Layout.{roomOf, recordAt, keyOf, zoneOf}
 use Rattle.records.specs.Holds.{labels, Bears, Linked}
 use Rattle.records.specs.declared.Record.{Record}

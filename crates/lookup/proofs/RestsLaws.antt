@@ -20,7 +20,8 @@ use Rattle.prefix.specs.Keys.{stringOf, isValid, Valid}
 use Rattle.prefix.specs.declared.Prefix.{Prefix}
 use Rattle.prefix.proofs.KeysLaws.{isValid-true}
 use Rattle.zones.specs.Maps.{Map}
-use Rattle.zones.specs.Tree.{Tree, tip, node, onward}
+use Rattle.zones.specs.Tree.{Tree, tip, node}
+use Rattle.zones.specs.Searching.{onward}
 use Rattle.records.specs.Layout.{roomOf, recordAt}
 use Rattle.records.specs.Holds.{Linked, Holds}
 use Rattle.records.specs.declared.Record.{Record}

@@ -10,7 +10,8 @@ use mathlib.Core.List.{List, [], _∷_, List·Memᴰ}
 use lib.ListN.{length}
 use Rattle.bits.specs.Bits.{Bits}
 use Rattle.bits.specs.Meet.{meet}
-use Rattle.zones.specs.Tree.{Tree, tip, node, onward}
+use Rattle.zones.specs.Tree.{Tree, tip, node}
+use Rattle.zones.specs.Searching.{onward}
 use Rattle.records.specs.Layout.{recordAt, headerAt}
 
 abbrev pub pathLinks : Tree ℕ → Bits → List ℕ

@@ -14,7 +14,9 @@ use borrow.Author.Tests.{le-ltb}
 use Rattle.prefix.specs.Keys.{stringOf}
 use Rattle.zones.specs.Maps.{Entry, Map, keys, ascending, get}
 use Rattle.zones.specs.Nodes.{nodes, overflows}
-use Rattle.zones.specs.Tree.{Tree, tip, node, entries, strings, shape}
+use Rattle.zones.specs.Tree.{Tree, tip, node, entries}
+use Rattle.zones.specs.Searching.{strings}
+use Rattle.zones.specs.TreeEdits.{shape}
 use Rattle.zones.proofs.MapsLaws.{overflows-stored}
 use Rattle.zones.proofs.TreeLaws.{ascending-entries, nodes-entries}
 use Rattle.zones.proofs.ShapeLaws.{shape-ext}

@@ -19,7 +19,8 @@ use Rattle.bits.proofs.ListsLaws.{length-keep-or, length-keep-imp, length-keep-
 use Rattle.bits.proofs.BitsLaws.{lcp-left, before-prefix, isPrefix-between}
 use Rattle.zones.specs.Maps.{Map, keys, ascending}
 use Rattle.zones.specs.Nodes.{nodes}
-use Rattle.zones.specs.Slices.{after, given, remains, passes, passed, wayTo, found, count, countedNodes, Turn, turns, nextAt, next, counted, pathed, ended}
+use Rattle.zones.specs.Slices.{after, given, remains, passes, passed, wayTo, found, count, countedNodes}
+use Rattle.zones.specs.Listings.{Turn, turns, nextAt, next, counted, pathed, ended}
 use Rattle.zones.proofs.NodesLaws.{Node, mem-nodes}
 use Rattle.zones.proofs.PathLaws.{length-path, length-prefixNodes}
 use Rattle.zones.proofs.SlicesLaws.{after-trans, givenKeys, length-givenKeys, givenKeys-stored, givenKeys-after, given-or-rest}

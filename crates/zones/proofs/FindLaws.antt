@@ -16,7 +16,8 @@ use Rattle.bits.proofs.ListsLaws.{keep-none, keep-every}
 use Rattle.bits.proofs.BitsLaws.{isPrefix-refl, isPrefix-trans, isPrefix-append, equal-true, order-refl, longer-irrefl, one-side}
 use Rattle.bits.proofs.MeetLaws.{Says, meet-says}
 use Rattle.zones.specs.Maps.{Entry, Map, get, longestMatch}
-use Rattle.zones.specs.Tree.{Tree, tip, node, Good, own, entries, onward, find, better, best}
+use Rattle.zones.specs.Tree.{Tree, tip, node, Good, own, entries}
+use Rattle.zones.specs.Searching.{onward, find, better, best}
 use Rattle.zones.proofs.MatchLaws.{longestMatch-last}
 use Rattle.zones.proofs.TreeLaws.{keep-node, KeysBegin, mem-own, begin-entries, begin-top, ascending-entries}
 use Rattle.zones.proofs.WalkLaws.{equal-off, above-off, apart-off}

@@ -13,7 +13,9 @@ use Rattle.bits.specs.declared.Meeting.{Meeting}
 use Rattle.bits.specs.declared.Meeting.the-variants.{Equal, Below, Above, Apart}
 use Rattle.bits.proofs.MeetLaws.{meet-says}
 use Rattle.zones.specs.Maps.{Entry}
-use Rattle.zones.specs.Tree.{Tree, tip, node, onward, find, full, Branch, Good, putTree, removeTree}
+use Rattle.zones.specs.Tree.{Tree, tip, node, full, Branch, Good}
+use Rattle.zones.specs.Searching.{onward, find}
+use Rattle.zones.specs.TreeEdits.{putTree, removeTree}
 use Rattle.zones.specs.Focus.{Context, top, into, Focus, joined, plug, collapsed, pull, focus}
 
 -- ---- focus

@@ -18,7 +18,9 @@ use Rattle.bits.proofs.BitsLaws.{isPrefix-trans, lcp-greatest, order-refl, orde
 use Rattle.bits.proofs.MeetLaws.{Says, meet-says}
 use Rattle.zones.specs.Maps.{Entry, Map, keys, put, putAt}
 use Rattle.zones.specs.Nodes.{nodes}
-use Rattle.zones.specs.Tree.{Tree, tip, node, full, Branch, Good, own, entries, strings, putHere, putTree}
+use Rattle.zones.specs.Tree.{Tree, tip, node, full, Branch, Good, own, entries}
+use Rattle.zones.specs.Searching.{strings}
+use Rattle.zones.specs.TreeEdits.{putHere, putTree}
 use Rattle.zones.proofs.TreeLaws.{KeysBegin, mem-own, begin-entries, begin-top, nodes-entries}
 
 -- ---- the tree stays good

@@ -16,7 +16,9 @@ use Rattle.bits.proofs.BitsLaws.{isPrefix-trans, isPrefix-append, equal-true, o
 use Rattle.bits.proofs.MeetLaws.{Says, meet-says}
 use Rattle.zones.specs.Maps.{Entry, Map, keys, without}
 use Rattle.zones.specs.Nodes.{nodes}
-use Rattle.zones.specs.Tree.{Tree, tip, node, Good, own, entries, strings, collapse, removeHere, removeTree}
+use Rattle.zones.specs.Tree.{Tree, tip, node, Good, own, entries}
+use Rattle.zones.specs.Searching.{strings}
+use Rattle.zones.specs.TreeEdits.{collapse, removeHere, removeTree}
 use Rattle.zones.proofs.TreeLaws.{keep-node, KeysBegin, mem-own, begin-entries, begin-top, nodes-entries}
 use Rattle.zones.proofs.WalkLaws.{equal-off, above-off, apart-off}
 

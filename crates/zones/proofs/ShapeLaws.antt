@@ -15,7 +15,9 @@ use Rattle.bits.proofs.ListsLaws.{and-left, and-right, all-mem, keep-none, keep
 use Rattle.bits.proofs.BitsLaws.{longer-irrefl, one-side}
 use Rattle.zones.specs.Maps.{Entry, Map, keys, ascending, get, put}
 use Rattle.zones.specs.Nodes.{nodes, path}
-use Rattle.zones.specs.Tree.{Tree, tip, node, Good, own, entries, strings, walk, shape, treeOf}
+use Rattle.zones.specs.Tree.{Tree, tip, node, Good, own, entries}
+use Rattle.zones.specs.Searching.{strings, walk}
+use Rattle.zones.specs.TreeEdits.{shape, treeOf}
 use Rattle.zones.proofs.TreeLaws.{keep-node, KeysBegin, mem-own, mem-keys, begin-entries, nodes-entries}
 use Rattle.zones.proofs.WalkLaws.{path-entries}
 use Rattle.zones.proofs.FindLaws.{get-entries}

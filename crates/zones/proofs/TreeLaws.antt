@@ -15,7 +15,8 @@ use Rattle.bits.proofs.BitsLaws.{isPrefix-refl, isPrefix-trans, isPrefix-append
 use Rattle.bits.proofs.RisingLaws.{rising-append, rising-ext}
 use Rattle.zones.specs.Maps.{Entry, Map, keys, ascending}
 use Rattle.zones.specs.Nodes.{nodes, isNode}
-use Rattle.zones.specs.Tree.{Tree, tip, node, full, Good, own, entries, strings}
+use Rattle.zones.specs.Tree.{Tree, tip, node, full, Good, own, entries}
+use Rattle.zones.specs.Searching.{strings}
 use Rattle.zones.proofs.NodesLaws.{Node, node-isNode, isNode-true, rising-nodes, member-nodes}
 
 -- ---- keys

@@ -21,7 +21,8 @@ use Rattle.bits.proofs.BitsLaws.{isPrefix-refl, isPrefix-trans, isPrefix-length
 use Rattle.bits.proofs.MeetLaws.{Says, meet-says}
 use Rattle.zones.specs.Maps.{keys}
 use Rattle.zones.specs.Nodes.{shorter, shortest, prefixNodes, beyond, lastNode, path}
-use Rattle.zones.specs.Tree.{Tree, tip, node, Good, entries, strings, onward, walk}
+use Rattle.zones.specs.Tree.{Tree, tip, node, Good, entries}
+use Rattle.zones.specs.Searching.{strings, onward, walk}
 use Rattle.zones.proofs.TreeLaws.{Begin, begin-append, begin-side, begin-strings, mem-strings, nodes-entries}
 
 -- ---- meet: where a search ends, the key does not begin with what lies further on

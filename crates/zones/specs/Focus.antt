@@ -1,5 +1,6 @@
 -- Where a search for a key ends in a tree: what lies below, and what stands above. An edit changes the one
 -- and leaves the other.
+-- Internal: what an edit of a table's words is held to; no public contract cites it.
 --   Context A         a tree with a place left open, from the place upwards
 --   plug c t          the whole tree, with t in the open place
 --   pull c t          the same after a remove: a node that stores nothing and has lost a side goes too
@@ -12,7 +13,9 @@ use mathlib.Core.Bool.{Bool, true, false}
 use mathlib.Core.Option.{Option}
 use Rattle.bits.specs.Bits.{Bits}
 use Rattle.bits.specs.Meet.{meet}
-use Rattle.zones.specs.Tree.{Tree, tip, node, onward, collapse}
+use Rattle.zones.specs.Tree.{Tree, tip, node}
+use Rattle.zones.specs.Searching.{onward}
+use Rattle.zones.specs.TreeEdits.{collapse}
 
 pub data Context (A : Type 0) : Type 0 where
   top : Context A
