@@ -13,7 +13,8 @@ use borrow.Author.Tests.{not-true, not-false, eq-eqb, ne-eqb}
 use Rattle.bits.specs.Bits.{Bits, isPrefix, lcp}
 use Rattle.bits.specs.Numbers.{odd}
 use Rattle.bits.proofs.BitsLaws.{isPrefix-length, length-lcp, isPrefix-lcp}
-use Rattle.prefix.specs.Keys.{stringOf, isValid, Valid, Validity}
+use Rattle.prefix.specs.Keys.{stringOf, isValid, Valid}
+use Rattle.prefix.specs.Calls.{Validity}
 use Rattle.prefix.specs.declared.Prefix.{Prefix}
 use Rattle.prefix.proofs.KeysLaws.{length-stringOf, both-true, isValid-true}
 use Rattle.records.specs.Layout.{isTable, capacity, roomOf, recordAt, headerAt, keyOf, isSpare}

@@ -12,7 +12,7 @@ use lib.Dec.{ltb, eqb}
 use lib.ListN.{length, getD, replicate}
 use borrow.Author.Tests.{ltb-false, not-true, not-false, lt-ltb, le-ltb, eq-eqb, ne-eqb}
 use Rattle.refusals.specs.Refusals.{OneOf, GivenExactly}
-use Rattle.prefix.specs.Keys.{Validity}
+use Rattle.prefix.specs.Calls.{Validity}
 use Rattle.prefix.specs.declared.Prefix.{Prefix}
 use Rattle.prefix.proofs.KeysLaws.{isValid-true}
 use Rattle.records.specs.Layout.{isTable}

@@ -10,7 +10,7 @@ use lib.Dec.{eqb, leb, ltb}
 use lib.ListN.{length}
 use borrow.Author.Tests.{not-false, leb-true, lt-ltb, le-ltb, eq-eqb, ne-eqb}
 use Rattle.bits.specs.Numbers.{odd}
-use Rattle.prefix.specs.Keys.{High, Parting}
+use Rattle.prefix.specs.Calls.{High, Parting}
 use Rattle.prefix.specs.declared.Prefix.{Prefix}
 use Rattle.prefix.proofs.HalvesLaws.{agree-after, agree-at}
 use Rattle.records.specs.Layout.{isTable, place, recordAt, headerAt, keyOf}

@@ -11,7 +11,7 @@ use lib.Dec.{eqb, ltb}
 use lib.ListN.{length, set, replicate}
 use lib.Seq.{paste, paste-zero}
 use Rattle.bits.specs.Numbers.{odd}
-use Rattle.prefix.specs.Keys.{Validity}
+use Rattle.prefix.specs.Calls.{Validity}
 use Rattle.prefix.specs.declared.Prefix.{Prefix}
 use Rattle.records.specs.Layout.{isTable, roomOf, recordAt}
 use Rattle.records.specs.declared.Record.{Record}

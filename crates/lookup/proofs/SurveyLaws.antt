@@ -15,7 +15,8 @@ use lib.Seq.{paste, paste-suc}
 use borrow.Author.Tests.{ltb-false, not-true, not-false, lt-ltb, le-ltb}
 use Rattle.refusals.specs.Refusals.{OneOf, GivenExactly}
 use Rattle.refusals.proofs.RefusalsLaws.{exactly-walk}
-use Rattle.prefix.specs.Keys.{isValid, Validity}
+use Rattle.prefix.specs.Keys.{isValid}
+use Rattle.prefix.specs.Calls.{Validity}
 use Rattle.prefix.specs.declared.Prefix.{Prefix}
 use Rattle.prefix.proofs.KeysLaws.{isValid-true}
 use Rattle.records.specs.Layout.{isTable}

@@ -13,7 +13,8 @@ use lib.ListN.{length, set, length-set}
 use borrow.Author.Tests.{ltb-false, not-true, not-false, lt-ltb, le-ltb, eq-eqb, ne-eqb}
 use Rattle.bits.specs.Bits.{lcp}
 use Rattle.bits.proofs.BitsLaws.{length-lcp}
-use Rattle.prefix.specs.Keys.{wordBits, stringOf, Shared}
+use Rattle.prefix.specs.Keys.{wordBits, stringOf}
+use Rattle.prefix.specs.Calls.{Shared}
 use Rattle.prefix.specs.declared.Prefix.{Prefix}
 use Rattle.prefix.proofs.KeysLaws.{length-stringOf}
 use Rattle.records.specs.Layout.{roomOf, recordAt, keyOf}

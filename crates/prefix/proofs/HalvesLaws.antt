@@ -20,7 +20,8 @@ use Rattle.bits.proofs.BlankLaws.{clear-drop-append, blank-append}
 use Rattle.bits.proofs.NumbersLaws.{length-bitsOf, bitsOf-add, drop-bitsOf, clear-bitsOf}
 use Rattle.bits.proofs.ValueLaws.{bitsOf-mod}
 use Rattle.bits.proofs.PartingLaws.{parting-after, parting-at, parting-before}
-use Rattle.prefix.specs.Keys.{wordBits, High, Low, Parting}
+use Rattle.prefix.specs.Keys.{wordBits}
+use Rattle.prefix.specs.Calls.{High, Low, Parting}
 use Rattle.prefix.specs.declared.Prefix.{Prefix}
 use Rattle.prefix.proofs.WordsLaws.{length-wordBits}
 

@@ -21,7 +21,8 @@ use Rattle.bits.proofs.MeetLaws.{meet-apart, meet-above, meet-below, meet-equal
 use Rattle.bits.proofs.BlankLaws.{length-blank, blank-all, take-blank, clear-drop-blank, blank-clear, blank-ext, orElse-assoc, order-take}
 use Rattle.bits.proofs.NumbersLaws.{length-bitsOf, bitsOf-zero}
 use Rattle.bits.proofs.ValueLaws.{value-lt, bitsOf-value}
-use Rattle.prefix.specs.Keys.{wordBits, stringOf, isValid, Valid, cutOf, Validity, Shared, Cut, High, Low}
+use Rattle.prefix.specs.Keys.{wordBits, stringOf, isValid, Valid, cutOf}
+use Rattle.prefix.specs.Calls.{Validity, Shared, Cut, High, Low}
 use Rattle.prefix.specs.declared.Prefix.{Prefix}
 use Rattle.prefix.proofs.WordsLaws.{Small, length-wordBits, order-wordBits, wordBits-inj, blank-wordBits}
 use Rattle.prefix.proofs.HalvesLaws.{clear-zero, clear-first, clear-second, wordBits-blank}

@@ -11,7 +11,8 @@ ghost use Rattle.bits.specs.Bits.{lcp, order, isPrefix};
 ghost use Rattle.bits.specs.Meet.{meet as meetOf};
 ghost use Rattle.bits.specs.Numbers.{bitsOf, clear, blank};
 ghost use Rattle.bits.specs.Orders.{numberOrder, orElse};
-ghost use Rattle.prefix.specs.Keys.{wordBits, stringOf, Valid, Validity, Shared, Cut, High, Low, Parting};
+ghost use Rattle.prefix.specs.Keys.{wordBits, stringOf, Valid};
+ghost use Rattle.prefix.specs.Calls.{Validity, Shared, Cut, High, Low, Parting};
 
 // The four words have the highest bits first. A value may be any width and any words: `valid` says
 // whether it is a prefix.

@@ -6,7 +6,7 @@ use mathlib.Core.Path.{_≡_}
 use mathlib.Core.List.{List, _++_}
 use lib.ListN.{getD}
 use Rattle.bits.specs.Numbers.{bitsOf}
-use Rattle.prefix.specs.Keys.{High}
+use Rattle.prefix.specs.Calls.{High}
 use Rattle.prefix.proofs.HalvesLaws.{high-pair}
 use Rattle.records.specs.Layout.{place, recordAt, keyOf}
 

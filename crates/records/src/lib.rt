@@ -5,7 +5,7 @@ use prefix::Prefix;
 ghost use Prim.Native.Nat.{ℕ, _+_, _≤_};
 ghost use mathlib.Core.Path.{_≡_};
 ghost use lib.ListN.{length};
-ghost use Rattle.prefix.specs.Keys.{High};
+ghost use Rattle.prefix.specs.Calls.{High};
 ghost use Rattle.records.specs.Layout.{isTable, place, roomOf, Inside, recordAt, headerAt, withRecord, withHeader, withSide};
 ghost use Rattle.records.specs.Layout.{keyOf as keyIn};
 
