@@ -12,7 +12,8 @@ use lib.Dec.{leb, ltb, eqb}
 use lib.ListN.{length}
 use borrow.Author.Tests.{ltb-true, ltb-false, leb-true, leb-false, lt-ltb, le-ltb, eq-eqb, ne-eqb}
 use Rattle.zones.specs.Tree.{tip}
-use Rattle.records.specs.Layout.{tableLength, isTable, capacity, place, Inside, recordAt, headerAt, withRecord, isSpare}
+use Rattle.records.specs.Layout.{tableLength, isTable, capacity, place, recordAt, headerAt, withRecord, isSpare}
+use Rattle.records.specs.Inside.{Inside}
 use Rattle.records.specs.Holds.{Memory, Chained, times, Once, Holds}
 use Rattle.records.proofs.LayoutLaws.{Table, isTable-true, length-withRecord, recordAt-withRecord-same, recordAt-withRecord-other, headerAt-withRecord, length-withHeader, recordAt-withHeader, headerAt-withHeader}
 use Rattle.plans.specs.Planning.{freedOf}

@@ -12,7 +12,8 @@ use lib.ListN.{length, length-append, length-drop, drop}
 use borrow.Author.Tests.{eqb-true, eqb-false}
 use Rattle.bits.specs.Bits.{Bits}
 use Rattle.zones.specs.Tree.{Tree, node, full}
-use Rattle.records.specs.Layout.{Inside, recordAt}
+use Rattle.records.specs.Layout.{recordAt}
+use Rattle.records.specs.Inside.{Inside}
 use Rattle.records.specs.Holds.{labels, Bears}
 use Rattle.records.specs.Hanging.{Hangs}
 use Rattle.records.specs.declared.Record.{Record}

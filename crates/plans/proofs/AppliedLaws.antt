@@ -9,7 +9,8 @@ use mathlib.Core.List.{List, [], _∷_, List·Memᴰ·head, List·Memᴰ·tail}
 use lib.Dec.{eqb}
 use lib.ListN.{length}
 use borrow.Author.Tests.{eqb-false, ne-eqb}
-use Rattle.records.specs.Layout.{place, Inside, recordAt, headerAt, withRecord, withHeader}
+use Rattle.records.specs.Layout.{place, recordAt, headerAt, withRecord, withHeader}
+use Rattle.records.specs.Inside.{Inside}
 use Rattle.records.proofs.LayoutLaws.{length-withRecord, recordAt-withRecord-same, recordAt-withRecord-other, headerAt-withRecord, length-withHeader, recordAt-withHeader, headerAt-withHeader}
 use Rattle.plans.specs.Planning.{wrote, applied, Fitting}
 use Rattle.plans.specs.Limits.{ThreeRecords}

@@ -9,7 +9,8 @@ use mathlib.Core.List.{List}
 use lib.ListN.{length}
 use borrow.Author.Tests.{not-true, not-false, ne-eqb}
 use Rattle.prefix.specs.declared.Prefix.{Prefix}
-use Rattle.records.specs.Layout.{Inside, headerAt, withRecord, withHeader}
+use Rattle.records.specs.Layout.{headerAt, withRecord, withHeader}
+use Rattle.records.specs.Inside.{Inside}
 use Rattle.records.specs.declared.Record.{Record}
 use Rattle.records.specs.declared.Header.{Header}
 use Rattle.records.proofs.LayoutLaws.{length-withRecord, length-withHeader, withHeader-headerAt}

@@ -15,7 +15,8 @@ use lib.ListN.{length, getD, set, length-set}
 use lib.Seq.{sets, getD-set-same, getD-set-other, set-getD}
 use borrow.Author.Tests.{leb-true, ltb-true, eqb-true, le-leb, lt-ltb, eq-eqb, not-false}
 use Rattle.prefix.proofs.KeysLaws.{both-true}
-use Rattle.records.specs.Layout.{tableLength, isTable, capacity, place, roomOf, Inside, recordAt, headerAt, withRecord, withHeader, withSide}
+use Rattle.records.specs.Layout.{tableLength, isTable, capacity, place, roomOf, recordAt, headerAt, withRecord, withHeader, withSide}
+use Rattle.records.specs.Inside.{Inside}
 use Rattle.records.specs.declared.Record.{Record}
 use Rattle.records.specs.declared.Header.{Header}
 

@@ -1,5 +1,6 @@
 -- A part of a table's tree, as it hangs from a link: what a function that goes down the tree asks of the words
 -- and hands on to the two sides.
+-- Internal: what such a function is held to; no public contract cites it.
 -- Paper 01, "The lent table".
 --   Hangs ws l a t    from the link l the words ws have the tree t, all of whose strings have at least a bits
 --   HangsNode         the same of a link that is not 0: the node there, and what hangs on its sides
@@ -12,7 +13,8 @@ use mathlib.Core.Option.{Option}
 use lib.ListN.{length}
 use Rattle.bits.specs.Bits.{Bits}
 use Rattle.zones.specs.Tree.{Tree, node, Good}
-use Rattle.records.specs.Layout.{roomOf, Inside, recordAt}
+use Rattle.records.specs.Layout.{roomOf, recordAt}
+use Rattle.records.specs.Inside.{Inside}
 use Rattle.records.specs.Holds.{labels, Bears, Linked}
 
 pub record Hangs (ws : List ℕ) (l a : ℕ) (t : Tree ℕ) : Type 0 where

@@ -5,7 +5,6 @@
 --   capacity n        the records of a table of n words
 --   place l           where the record of the link l starts
 --   roomOf n l        a table of n words has a record l
---   Inside ws l       the words ws have a record l
 --   recordAt, headerAt       the record of a link, the header
 --   withRecord, withHeader   the words with another one there
 --   keyOf r           a record's key
@@ -13,12 +12,12 @@
 --   sideOf r x        the link of a record's side; withSide r x l: the record with the link l there
 --   isSpare r         the record is spare
 -- Assumes nothing.
-use Prim.Native.Nat.{ℕ, _+_, _-_, _*_, _/_, _%_, _≤_}
+use Prim.Native.Nat.{ℕ, _+_, _-_, _*_, _/_, _%_}
 use mathlib.Core.Bool.{Bool, true, false, _&&_, cond}
 use mathlib.Core.List.{List}
 use mathlib.Core.Option.{Option, none, some}
 use lib.Dec.{leb, ltb, eqb}
-use lib.ListN.{length, getD, set}
+use lib.ListN.{getD, set}
 use Rattle.bits.specs.Numbers.{odd}
 use Rattle.prefix.specs.declared.Prefix.{Prefix}
 use Rattle.records.specs.declared.Record.{Record}
@@ -41,9 +40,6 @@ place l = 8 * l
 
 unfoldable pub roomOf : ℕ → ℕ → Bool
 roomOf n l = ltb 0 l && ltb l (n / 8)
-
-pub record Inside (ws : List ℕ) (l : ℕ) : Type 0 where
-  pub fits : place l + 8 ≤ length ws
 
 -- (of each half of the key the lower word stands first)
 unfoldable pub recordAt : List ℕ → ℕ → Record

@@ -1,3 +1,4 @@
 pub mod Layout
 pub mod Holds
+pub mod Inside
 pub mod Hanging

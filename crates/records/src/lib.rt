@@ -6,7 +6,8 @@ ghost use Prim.Native.Nat.{ℕ, _+_, _≤_};
 ghost use mathlib.Core.Path.{_≡_};
 ghost use lib.ListN.{length};
 ghost use Rattle.prefix.specs.Calls.{High};
-ghost use Rattle.records.specs.Layout.{isTable, place, roomOf, Inside, recordAt, headerAt, withRecord, withHeader, withSide};
+ghost use Rattle.records.specs.Layout.{isTable, place, roomOf, recordAt, headerAt, withRecord, withHeader, withSide};
+ghost use Rattle.records.specs.Inside.{Inside};
 ghost use Rattle.records.specs.Layout.{keyOf as keyIn};
 
 // One node record. A link is 0 for none, else the number of a record, the first being 1. The tag is
