@@ -20,7 +20,8 @@ use Rattle.records.specs.Holds.{labels, Linked, Chained, times, Holds}
 use Rattle.records.proofs.OnceLaws.{times-append, mem-times}
 use Rattle.records.proofs.HoldsLaws.{linked-ext, chained-ext}
 use Rattle.records.proofs.GraftLaws.{labelsAbove, Framed, framed-ext}
-use Rattle.plans.specs.Planning.{nowhereOf, nodeOf, applied, Fitting}
+use Rattle.plans.specs.Planning.{nowhereOf, nodeOf, applied}
+use Rattle.plans.specs.Making.{Fitting}
 use Rattle.plans.proofs.AppliedLaws.{length-applied, headerAt-applied, recordAt-applied-one, recordAt-applied-other}
 use Rattle.plans.specs.Planning.{entryOf}
 use Rattle.grafts.proofs.PlanHoldsLaws.{herePlan}

@@ -19,7 +19,8 @@ use Rattle.records.specs.Layout.{place, recordAt, headerAt}
 use Rattle.records.specs.Holds.{Memory, labels, Linked, Chained, times, Holds}
 use Rattle.records.proofs.OnceLaws.{mem-times}
 use Rattle.records.proofs.GraftLaws.{labelsAbove}
-use Rattle.plans.specs.Planning.{nodeOf, freedOf, nowhereOf, applied, Fitting}
+use Rattle.plans.specs.Planning.{nodeOf, freedOf, nowhereOf, applied}
+use Rattle.plans.specs.Making.{Fitting}
 use Rattle.plans.specs.Plans.{Write}
 use Rattle.plans.proofs.AppliedLaws.{length-applied, headerAt-applied, recordAt-applied-other, recordAt-applied-one, recordAt-applied-two, recordAt-applied-three}
 use Rattle.grafts.proofs.HangLaws.{Hanged}

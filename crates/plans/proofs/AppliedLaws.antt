@@ -12,7 +12,8 @@ use borrow.Author.Tests.{eqb-false, ne-eqb}
 use Rattle.records.specs.Layout.{place, recordAt, headerAt, withRecord, withHeader}
 use Rattle.records.specs.Inside.{Inside}
 use Rattle.records.proofs.LayoutLaws.{length-withRecord, recordAt-withRecord-same, recordAt-withRecord-other, headerAt-withRecord, length-withHeader, recordAt-withHeader, headerAt-withHeader}
-use Rattle.plans.specs.Planning.{wrote, applied, Fitting}
+use Rattle.plans.specs.Planning.{wrote, applied}
+use Rattle.plans.specs.Making.{Fitting}
 use Rattle.plans.specs.Limits.{ThreeRecords}
 use Rattle.plans.specs.Plans.{Write, Plan}
 

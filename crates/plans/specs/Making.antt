@@ -1,10 +1,12 @@
 -- What an edit's code comes to, by its plan: the contracts of the functions that write.
+-- Internal: what this crate's own functions are held to; no public contract cites it.
 -- Paper 01, "Numbered refusals": "Every refusal leaves the table's words alone."
 --   madeOf p, leftBy ws p   what is answered of a plan, and the words that it leaves
 --   Makes                   the contract of a store, of a remove, and of each of their steps
 --   isHung x, hungBy        whether a link is hung, and the words with it and with a first spare record
 --   Hangs                   the contract of `hang`
 --   Taken ws l              l is the link of a record of ws
+--   Fitting ws p            the places of a plan are in the table
 -- Assumes nothing.
 use Prim.Native.Nat.{ℕ, _+_, _≤_, _<_}
 use mathlib.Core.Path.{_≡_}
@@ -13,6 +15,7 @@ use mathlib.Core.List.{List}
 use lib.ListN.{length}
 use Rattle.prefix.specs.declared.Prefix.{Prefix}
 use Rattle.records.specs.Layout.{place, headerAt, withHeader}
+use Rattle.plans.specs.Plans.{Plan}
 use Rattle.plans.specs.Planned.{Planned}
 use Rattle.plans.specs.Planned as planned
 use Rattle.plans.specs.Hung.{Hung}
@@ -54,3 +57,9 @@ pub record Hangs (ws : List ℕ) (k : Prefix) (at l spare : ℕ) (r : Bool) (us 
 pub record Taken (ws : List ℕ) (l : ℕ) : Type 0 where
   pub some : 0 < l
   pub inside : place l + 8 ≤ length ws
+
+pub record Fitting (ws : List ℕ) (p : Plan) : Type 0 where
+  pub header : 16 ≤ length ws
+  pub one : place (p .one .link) + 8 ≤ length ws
+  pub two : place (p .two .link) + 8 ≤ length ws
+  pub three : place (p .three .link) + 8 ≤ length ws

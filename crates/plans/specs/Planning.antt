@@ -5,14 +5,13 @@
 --   entryOf k z                the entry that a store adds
 --   nowhereOf, nodeOf, freedOf   writes and records by value
 --   wrote ws w, applied ws p   the words with a write, with a plan
---   Fitting ws p               the places of a plan are in the table
 --   lookOn, spareOn            what a link leads to, as a node and as a spare record
 --   hangOn, planOf             a link hung from a node or at the top, and the plan of that
 --   planStoreOn                a store: hereOn where the key has a node, else newOn, by aboveOn or forkOn
 --                              where a node is in the way
 --   planRemoveOn               a remove: outOn by the node's sides, passOn, aloneOn and twinOn
 -- Assumes nothing.
-use Prim.Native.Nat.{ℕ, _+_, _*_, _/_, _≤_}
+use Prim.Native.Nat.{ℕ, _+_, _*_, _/_}
 use mathlib.Core.Bool.{Bool, false, not, cond}
 use mathlib.Core.List.{List}
 use lib.Dec.{leb, ltb, eqb}
@@ -21,7 +20,7 @@ use Rattle.bits.specs.Numbers.{odd}
 use Rattle.prefix.specs.Keys.{stringOf, cutOf}
 use Rattle.prefix.specs.declared.Prefix.{Prefix}
 use Rattle.zones.specs.Maps.{Entry}
-use Rattle.records.specs.Layout.{place, roomOf, recordAt, headerAt, withRecord, withHeader, keyOf, sideOf, withSide}
+use Rattle.records.specs.Layout.{roomOf, recordAt, headerAt, withRecord, withHeader, keyOf, sideOf, withSide}
 use Rattle.records.specs.declared.Record.{Record}
 use Rattle.records.specs.declared.Header.{Header}
 use Rattle.lookup.specs.declared.Walk.{Walk}
@@ -60,12 +59,6 @@ wrote ws w = cond (eqb (w .link) 0) ws (withRecord ws (w .link) (w .content))
 
 unfoldable pub applied : List ℕ → Plan → List ℕ
 applied ws p = wrote (wrote (wrote (withHeader ws (p .header)) (p .one)) (p .two)) (p .three)
-
-pub record Fitting (ws : List ℕ) (p : Plan) : Type 0 where
-  pub header : 16 ≤ length ws
-  pub one : place (p .one .link) + 8 ≤ length ws
-  pub two : place (p .two .link) + 8 ≤ length ws
-  pub three : place (p .three .link) + 8 ≤ length ws
 
 -- ---- reading
 
