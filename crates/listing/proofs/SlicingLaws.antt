@@ -18,7 +18,8 @@ use Rattle.prefix.proofs.KeysLaws.{isValid-true}
 use Rattle.records.specs.Layout.{isTable}
 use Rattle.records.proofs.LayoutLaws.{isTable-true}
 use Rattle.listing.specs.Touring.{Touring, startOn, tourFrom}
-use Rattle.listing.specs.Slicing.{soundOf, Narrow, refusedOf, Few, countedOf, Sliding, soughtFrom, slidingOf, sliceOn, numberOf, valuesOf, numberOfRefused, Slice}
+use Rattle.listing.specs.Slicing.{soundOf, refusedOf, countedOf, Sliding, soughtFrom, slidingOf, sliceOn, numberOf, valuesOf, numberOfRefused, Slice}
+use Rattle.listing.specs.Bounds.{Narrow, Few}
 use Rattle.listing.specs.declared.Resume.{Resume}
 use Rattle.listing.specs.declared.Resume.the-variants.{Start, After}
 use Rattle.listing.specs.declared.Refused.{Refused}

@@ -1,3 +1,4 @@
 pub mod Touring
 pub mod Slicing
 pub mod Resting
+pub mod Bounds

@@ -7,7 +7,7 @@
 --   wordsOf m           the entries of m as they stand in the output
 --   Slice               the contract of `slice`
 -- Assumes nothing.
-use Prim.Native.Nat.{ℕ, suc, _+_, _*_, _≤_}
+use Prim.Native.Nat.{ℕ, suc, _+_, _*_}
 use mathlib.Core.Path.{_≡_}
 use mathlib.Core.Bool.{Bool, true, false, cond}
 use mathlib.Core.List.{List, [], _∷_, _++_}
@@ -39,11 +39,6 @@ abbrev pub soundOf : Resume → Bool
 soundOf Start = true
 soundOf (After k) = isValid k
 
--- what the code needs of a resume that is sound
-abbrev pub Narrow : Resume → Type 0
-Narrow Start = Unit {0}
-Narrow (After k) = k .width ≤ 128
-
 -- Nos. 1, 2, 4 and 5 in their order: BadSize, "b is 0 or above 4,096"; ShortOut, "listing .. output too
 -- short": "at least 6b words"
 unfoldable pub refusedOf : ℕ → Resume → ℕ → ℕ → Refused
@@ -53,11 +48,6 @@ refusedOf n r b room =
     (cond (eqb b 0) refused.BadSize (cond (ltb 4096 b) refused.BadSize (cond (ltb room (6 * b)) refused.ShortOut refused.No)))
     refused.BadPrefix)
     refused.BadLength
-
--- the nodes passed are at most the records
-abbrev pub Few : Toured → Type 0
-Few toured.Bad = Unit {0}
-Few (toured.Done n more passed) = passed ≤ 65536
 
 -- "plus the length of the resume prefix's path"
 abbrev pub countedOf : Toured → ℕ → Sliced

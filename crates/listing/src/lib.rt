@@ -13,7 +13,8 @@ use touring::tour_on;
 use way::begin;
 ghost use Prim.Native.Nat.{_≤_};
 ghost use mathlib.Core.Path.{_≡_};
-ghost use Rattle.listing.specs.Slicing.{Few, countedOf, Slice};
+ghost use Rattle.listing.specs.Slicing.{countedOf, Slice};
+ghost use Rattle.listing.specs.Bounds.{Few};
 
 // Where a slice starts: at the first stored prefix, or after this one.
 pub enum Resume {

@@ -9,7 +9,7 @@ ghost use Prim.Native.Nat.{_≤_};
 ghost use mathlib.Core.Path.{_≡_};
 ghost use lib.ListN.{length};
 ghost use Rattle.listing.specs.Touring.{partedOf, soughtOf, soughtOn, seekFrom, startOn};
-ghost use Rattle.listing.specs.Slicing.{Narrow};
+ghost use Rattle.listing.specs.Bounds.{Narrow};
 
 // Where the tour starts: at the top, or after the path of the resume prefix.
 pub(crate) fn begin(table: &[u32], resume: Resume, stack: &mut [u32; 129]) -> Seek
