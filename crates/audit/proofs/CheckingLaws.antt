@@ -21,7 +21,8 @@ use Rattle.records.specs.Layout.{isTable, capacity, roomOf, recordAt, headerAt,
 use Rattle.records.specs.declared.Record.{Record}
 use Rattle.records.specs.declared.Header.{Header}
 use Rattle.records.proofs.LayoutLaws.{Table, isTable-true}
-use Rattle.audit.specs.Checking.{lowOf, stands, isNode, thenOn, belowOn, chainOn, auditOf, auditOn}
+use Rattle.audit.specs.Checking.{stands, isNode, thenOn, belowOn, chainOn, auditOf, auditOn}
+use Rattle.audit.specs.Bounds.{lowOf}
 use Rattle.audit.specs.declared.Place.{Place}
 use Rattle.audit.specs.declared.Place.the-variants.{Top, Under}
 use Rattle.audit.specs.declared.Counted.{Counted}

@@ -2,7 +2,7 @@
 -- Paper 01, "Numbered refusals": "The whole-table check gives BadLength, yes or no. It says yes exactly if,
 -- for some set, the records in use are that set's tree, each node once and linked as the tree is, and every
 -- other record is spare and open to later stores."
---   stem at, lowOf at   the string that a node at a place begins with, and its length
+--   stem at             the string that a node at a place begins with
 --   stands k at         the key begins so
 --   isNode r at         a record may be a node at that place
 --   belowOn             the count after the nodes from a link down
@@ -11,7 +11,7 @@
 --   numberOf, valuesOf  the paper's number of an answer, 0 where accepted, and its values
 --   Check               the contract of `audit`
 -- Assumes nothing.
-use Prim.Native.Nat.{ℕ, zero, suc, _+_, _-_}
+use Prim.Native.Nat.{ℕ, zero, suc, _-_}
 use mathlib.Core.Path.{_≡_}
 use mathlib.Core.Bool.{Bool, true, false, _&&_, _||_, cond}
 use mathlib.Core.List.{List, [], _∷_, _++_}
@@ -35,10 +35,6 @@ use Rattle.audit.specs.declared.Audited.the-variants.{Yes, No, BadLength
 abbrev pub stem : Place → Bits
 stem Top = []
 stem (Under p x) = stringOf p ++ (x ∷ [])
-
-abbrev pub lowOf : Place → ℕ
-lowOf Top = 0
-lowOf (Under p x) = p .width + 1
 
 unfoldable pub stands : Prefix → Place → Bool
 stands k at = isPrefix (stem at) (stringOf k)

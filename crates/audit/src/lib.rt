@@ -7,7 +7,8 @@ ghost use Prim.Native.Nat.{ℕ, _+_, _≤_};
 ghost use mathlib.Core.Path.{_≡_};
 ghost use lib.ListN.{length};
 ghost use Rattle.prefix.specs.Keys.{Valid};
-ghost use Rattle.audit.specs.Checking.{lowOf, stands as standsOf, isNode, belowOn, chainOn, Check};
+ghost use Rattle.audit.specs.Checking.{stands as standsOf, isNode, belowOn, chainOn, Check};
+ghost use Rattle.audit.specs.Bounds.{lowOf};
 
 // The answer: the words are a table, or they are not.
 pub enum Audited {

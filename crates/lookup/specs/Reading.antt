@@ -1,4 +1,5 @@
 -- What a read comes to, on any words: what fetch and longest match have in common.
+-- Internal: what this crate's own functions are held to; no public contract cites it.
 -- Paper 01, "The lent table" and "Numbered refusals".
 --   readOf x          what a read keeps of a survey: no link, which an edit alone asks for
 --   nodesOf r         how many nodes a reading has widths of

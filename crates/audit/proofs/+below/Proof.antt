@@ -11,7 +11,7 @@ use Rattle.records.proofs.LayoutLaws.{inside-tested}
 use Rattle.records.proofs.has_room.Reads as has-room
 use Rattle.records.proofs.key_of.Reads as key-of
 use Rattle.records.proofs.read_record.Reads as read-record
-use Rattle.audit.specs.Checking.{lowOf}
+use Rattle.audit.specs.Bounds.{lowOf}
 use Rattle.audit.proofs.CheckingLaws.{Node, node-seen, node-fair}
 use Rattle.audit.proofs.CheckingLaws.{belowOn-end, belowOn-many, belowOn-outside, belowOn-other, belowOn-bad, belowOn-right}
 use Rattle.audit.proofs.is_node.Reads as is-node
