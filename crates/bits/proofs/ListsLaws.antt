@@ -166,6 +166,16 @@ module _ {A : Type 0} where
     pub keep-mem : (xs : List A) (a : A) → List·Memᴰ a (keep f xs) → List·Memᴰ a xs × T (f a)
     keep-mem (x ∷ xs) a i = keep-mem-at (f x) x a xs refl i (keep-mem xs a)
 
+  keep-and-at : (b c : Bool) (g : A → Bool) (x : A) (xs : List A) → g x ≡ c
+      → cond (b && c) (x ∷ keep g xs) (keep g xs) ≡ keep g (cond b (x ∷ xs) xs)
+  keep-and-at true c g x xs e = rw e
+  keep-and-at false c g x xs e = refl
+
+  -- those that pass two tests
+  pub keep-and : (f g : A → Bool) (xs : List A) → keep (λ x. f x && g x) xs ≡ keep g (keep f xs)
+  keep-and f g [] = refl
+  keep-and f g (x ∷ xs) = rw (keep-and f g xs) (keep-and-at (f x) (g x) g x (keep f xs) refl)
+
 -- ---- how many are kept
 
 module _ {A : Type 0} where
@@ -217,3 +227,12 @@ module _ {A B : Type 0} where
   pub any-each : (f : B → Bool) (g : A → List B) (xs : List A) → any f (each g xs) ≡ any (λ x. any f (g x)) xs
   any-each f g [] = refl
   any-each f g (x ∷ xs) = any-append f (g x) (each g xs) ∙ ap (λ (b : Bool). any f (g x) || b) (any-each f g xs)
+
+  map-keep-at : (b : Bool) (g : A → B) (x : A) (xs : List A) → map g (cond b (x ∷ xs) xs) ≡ cond b (g x ∷ map g xs) (map g xs)
+  map-keep-at true g x xs = refl
+  map-keep-at false g x xs = refl
+
+  -- what is kept by its image
+  pub map-keep : (f : B → Bool) (g : A → B) (xs : List A) → map g (keep (λ x. f (g x)) xs) ≡ keep f (map g xs)
+  map-keep f g [] = refl
+  map-keep f g (x ∷ xs) = rw (← map-keep f g xs) (map-keep-at (f (g x)) g x (keep (λ y. f (g y)) xs))

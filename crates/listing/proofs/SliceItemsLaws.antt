@@ -5,7 +5,7 @@ use Prim.Native.Nat.{ℕ, zero, suc, _-_}
 use native.Mathlib.Nat.{sub-zero}
 use native.Mathlib.Omega.{arith}
 use mathlib.Core.Path.{_≡_, refl, sym, ap, ap₂, _∙_, subst}
-use mathlib.Core.Bool.{Bool, true, false, not, _&&_, cond}
+use mathlib.Core.Bool.{Bool, true, false, not, cond}
 use mathlib.Core.List.{List, [], _∷_, _++_, map, append-assoc, append-nil, map-append, List·Memᴰ, List·Memᴰ·head}
 use mathlib.Core.Option.{Option, none, some}
 use lib.Dec.{T, eqb·suc-zero, T-not, not-T}
@@ -13,7 +13,7 @@ use lib.ListN.{length, take, drop, length-map}
 use lib.Seq.{drop-nil, take-nil}
 use Rattle.bits.specs.Lists.{keep, any, last, lastOr, isEmpty}
 use Rattle.bits.specs.Bits.{Bits, isPrefix, before, rising}
-use Rattle.bits.proofs.ListsLaws.{any-append, any-mem, mem-any, or-left, mem-map, mem-keep, keep-append, keep-every, keep-none, mem-lastOr}
+use Rattle.bits.proofs.ListsLaws.{any-append, any-mem, mem-any, or-left, mem-map, mem-keep, keep-append, keep-every, keep-none, keep-and, map-keep, mem-lastOr}
 use Rattle.bits.proofs.BitsLaws.{lcp-left}
 use Rattle.bits.proofs.RisingLaws.{rising-keep, rising-left, rising-parts, not-after-lastOr}
 use Rattle.zones.specs.Maps.{Map, keys}
@@ -179,22 +179,6 @@ last-upTo (suc b) (i ∷ is) h =
 
 -- ---- given, remains and passed, of a good tree's items after a resume
 
-keysOf-keep : (f : Bits → Bool) (is : List Item) → keysOf (keep (λ i. f (i .key)) is) ≡ keep f (keysOf is)
-keysOf-keep f [] = refl
-keysOf-keep f (i ∷ is) = rw (← keysOf-keep f is) (at (f (i .key)) (keep (λ j. f (j .key)) is))
-  where
-    at : (b : Bool) (js : List Item) → keysOf (cond b (i ∷ js) js) ≡ cond b (i .key ∷ keysOf js) (keysOf js)
-    at true js = refl
-    at false js = refl
-
-keep-and : (f g : Item → Bool) (is : List Item) → keep (λ i. f i && g i) is ≡ keep g (keep f is)
-keep-and f g [] = refl
-keep-and f g (i ∷ is) = rw (keep-and f g is) (at (f i))
-  where
-    at : (b : Bool) → cond (b && g i) (i ∷ keep g (keep f is)) (keep g (keep f is)) ≡ keep g (cond b (i ∷ keep f is) (keep f is))
-    at true = refl
-    at false = refl
-
 -- of ascending items in two parts, those that do not come after the last of the first part are that part
 keep-not-after : (i : Item) (is js : List Item) → T (rising (keysOf (i ∷ is) ++ keysOf js))
     → keep (λ j. not (before (lastOr (i .key) (keysOf is)) (j .key))) (i ∷ (is ++ js)) ≡ i ∷ is
@@ -234,7 +218,7 @@ module _ (p : Bits) (t : Tree ℕ) (g : Good p t) (r : Option Bits) (b : ℕ) wh
 
   rising-is : T (rising (keysOf (upTo b is) ++ keysOf (past b is)))
   rising-is =
-      let all : keysOf is ≡ keep (after r) (strings t) = keysOf-keep (after r) (items t) ∙ ap (keep (after r)) (keys-items t) in
+      let all : keysOf is ≡ keep (after r) (strings t) = map-keep (after r) (λ (i : Item). i .key) (items t) ∙ ap (keep (after r)) (keys-items t) in
       rw (← map-append (λ (i : Item). i .key) (upTo b is) (past b is), upTo-past b is, all)
       (rising-keep (after r) (strings t) (rising-strings p t g))
 
@@ -253,4 +237,4 @@ module _ (p : Bits) (t : Tree ℕ) (g : Good p t) (r : Option Bits) (b : ℕ) wh
   unfolding passed
   passed-items =
       let f : Bits → Bool = passes r (last (keys (given (entries t) r b))) in
-      rw (nodes-entries p t g, ← keys-items t, ← keysOf-keep f (items t), passes-items) (sym (length-map (upTo b is) (λ (i : Item). i .key)))
+      rw (nodes-entries p t g, ← keys-items t, ← map-keep f (λ (i : Item). i .key) (items t), passes-items) (sym (length-map (upTo b is) (λ (i : Item). i .key)))

@@ -12,7 +12,7 @@ use Rattle.bits.specs.Lists.{any, all, keep}
 use Rattle.bits.specs.Bits.{Bits, order, isBefore, isSame, before, equal, rising, member}
 use Rattle.bits.specs.declared.Order.{Order}
 use Rattle.bits.specs.declared.Order.the-variants.{Before, Same, After}
-use Rattle.bits.proofs.ListsLaws.{and-left, and-right, all-mem, mem-map}
+use Rattle.bits.proofs.ListsLaws.{and-left, and-right, all-mem, mem-map, map-keep}
 use Rattle.bits.proofs.BitsLaws.{equal-true, order-refl, flip, order-flip}
 use Rattle.bits.proofs.RisingLaws.{rising-keep, before-rising, before-not-equal}
 use Rattle.zones.specs.Maps.{Entry, Map, keys, ascending, get, put, putAt, without}
@@ -33,17 +33,10 @@ unfolding keys
 keys-put e [] = refl
 keys-put e (f ∷ m) = keys-put-at (order (e .key) (f .key)) e f m refl (keys-put e m)
 
-keys-keep-at : (f : Bits → Bool) (b : Bool) (e : Entry) (m : Map) → keys (keep (λ x. f (x .key)) m) ≡ keep f (keys m)
-    → keys (cond b (e ∷ keep (λ x. f (x .key)) m) (keep (λ x. f (x .key)) m)) ≡ cond b (e .key ∷ keep f (keys m)) (keep f (keys m))
-unfolding keys
-keys-keep-at f true e m ih = ap (λ (l : List Bits). e .key ∷ l) ih
-keys-keep-at f false e m ih = ih
-
 -- what is kept by its key
 pub keys-keep : (f : Bits → Bool) (m : Map) → keys (keep (λ x. f (x .key)) m) ≡ keep f (keys m)
 unfolding keys
-keys-keep f [] = refl
-keys-keep f (e ∷ m) = keys-keep-at f (f (e .key)) e m (keys-keep f m)
+keys-keep f m = map-keep f (λ (x : Entry). x .key) m
 
 pub keys-without : (k : Bits) (m : Map) → keys (without k m) ≡ keep (λ p. not (equal k p)) (keys m)
 unfolding without

@@ -1,4 +1,5 @@
--- A listing of several slices, "each slice resuming at the last prefix given"; "Edits may come between slices".
+-- A listing of several slices, "each slice resuming at the last prefix given"; "Edits may come between
+-- slices".
 -- No contract cites it: the laws of a whole listing do (`listed-once`, `counted-whole`).
 -- Paper 01, "Listing in slices".
 --   Turn              one slice of a listing: the map as it then stands, and the size asked for
