@@ -19,7 +19,7 @@ use Rattle.plans.specs.Plans.{Plan}
 use Rattle.plans.specs.Planning.{applied}
 use Rattle.edits.specs.Storing.{Edit}
 
--- "up to two spare records" (a remove reads none: the law `removeOn-rests` asks only for the path's records)
+-- (a remove reads no spare record: the law `removeOn-rests` asks only for the path's)
 abbrev pub editLinks : {ws : List ℕ} {m : Map} → Holds ws m → Bits → List ℕ
 editLinks h k = pathLinks (h .tree) k ++ take 2 (h .chain)
 
@@ -27,8 +27,8 @@ abbrev pub written : List ℕ → Option Plan → List ℕ
 written ws none = ws
 written ws (some p) = applied ws p
 
--- "the same words in the same places on both" (a plan is the header's two words, and up to three records with
--- their links)
+-- (a plan is the header's two words, and up to three records with their links: so one plan is the same words
+-- in the same places)
 pub record SameEdit {A : Type 0} (us ws : List ℕ) (x y : Edit A) : Type 0 where
   pub answer : x .answer ≡ y .answer
   pub bytes : x .bytes ≡ y .bytes

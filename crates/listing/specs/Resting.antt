@@ -27,7 +27,7 @@ abbrev pub pathLinksOf : Tree ℕ → Resume → List ℕ
 pathLinksOf t Start = []
 pathLinksOf t (After k) = pathLinks t (stringOf k)
 
--- "the nodes it counts": those of the resume's path, and those passed (the law `sliceLinks-strings` says that
--- their strings are the paper's, `countedNodes`)
+-- the resume's path, and the nodes passed (the law `sliceLinks-strings` says that their strings are
+-- `countedNodes` of zones/specs/Slices.antt)
 unfoldable pub sliceLinks : Tree ℕ → Resume → ℕ → List ℕ
 sliceLinks t r b = pathLinksOf t r ++ linksWhere (passes (resumeOf r) (last (keys (given (entries t) (resumeOf r) b)))) t

@@ -47,7 +47,7 @@ passes r (some z) p = after r p && not (before z p)
 unfoldable pub passed : Map → Option Bits → Option Bits → ℕ
 passed m r z = length (keep (passes r z) (nodes (keys m)))
 
--- "the resume prefix's path" (none if no resume is given)
+-- the path of the resume prefix (none if no resume is given)
 abbrev pub wayTo : Map → Option Bits → List Bits
 wayTo m none = []
 wayTo m (some r) = path (keys m) r
@@ -59,6 +59,6 @@ found m r = length (wayTo m r)
 unfoldable pub count : Map → Option Bits → ℕ → ℕ
 count m r b = passed m r (last (keys (given m r b))) + found m r
 
--- "the nodes it counts": those of the resume's path, and those passed (one that is both stands there twice)
+-- "the nodes it counts" (those of the resume's path, and those passed; one that is both stands there twice)
 unfoldable pub countedNodes : Map → Option Bits → ℕ → List Bits
 countedNodes m r b = wayTo m r ++ keep (passes r (last (keys (given m r b)))) (nodes (keys m))
