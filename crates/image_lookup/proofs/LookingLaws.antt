@@ -13,6 +13,7 @@ use borrow.Author.Tests.{lt-ltb, le-ltb, le-leb}
 use Rattle.bits.specs.Lists.{all}
 use Rattle.bits.specs.Bits.{Bits}
 use Rattle.bits.proofs.ListsLaws.{all-mem, or-left, or-right}
+use Rattle.refusals.specs.Refusals.{OneOf}
 use Rattle.zones.specs.Maps.{Entry, Map, keys, longestMatch}
 use Rattle.image.specs.Image.{size24, Fork, forksOf, zonesOf, offset, recordOf, IsImage}
 use Rattle.image.specs.Tries.{Trie, leaf, fork, size, ref}
@@ -108,6 +109,11 @@ numberOf-found : (o : Option Entry) → numberOf (foundOf o) ≡ 0
 numberOf-found none = refl
 numberOf-found (some e) = refl
 
+numberOf-oneOf : (r : Looked) → OneOf (0 ∷ 9 ∷ []) (numberOf r)
+numberOf-oneOf (Zone z) = tt
+numberOf-oneOf NoData = tt
+numberOf-oneOf BadImage = tt
+
 valuesOf-refused : (r : Looked) → numberOf r ≡ 9 → valuesOf r ≡ 0 ∷ 0 ∷ []
 valuesOf-refused (Zone z) h = absurd (omega arith)
 valuesOf-refused NoData h = refl
@@ -117,6 +123,7 @@ pub look-promise : (bs : List ℕ) (k : Bits) (r : Looked) → length k ≡ 128 
 look-promise bs k r l e =
     record {
       answer = e;
+      refusal = numberOf-oneOf r;
       meaning = λ m epoch h. e ∙ lookOn-image h k l;
       number = λ m epoch h. ap numberOf (e ∙ lookOn-image h k l) ∙ numberOf-found (longestMatch k m);
       kept = valuesOf-refused r;

@@ -15,7 +15,8 @@ use Rattle.bits.specs.Numbers.{odd, bitsOf}
 use Rattle.bits.proofs.NumbersLaws.{length-bitsOf}
 use Rattle.metadata.specs.Frames.{numberAt, countOn}
 use Rattle.metadata.specs.declared.Counted.the-variants as counted
-use Rattle.image_lookup.specs.Looking.{recordIn, entryOn, leafOn, walkOn, followOn, lookOn, addressBits}
+use Rattle.image_lookup.specs.Looking.{recordIn, entryOn, leafOn, walkOn, lookOn, addressBits}
+use Rattle.image_lookup.specs.Following.{followOn}
 use Rattle.image_lookup.specs.declared.Looked.{Looked}
 use Rattle.image_lookup.specs.declared.Looked.the-variants.{Zone, NoData, BadImage}
 

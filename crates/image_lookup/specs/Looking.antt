@@ -5,7 +5,6 @@
 --   entryOn bs at       the data entry at a byte
 --   leafOn bs n r       what a record answers that is no node, of n nodes
 --   walkOn bs n i k     the search from the node i by the bits of k
---   followOn bs n i k   the last record that the search reads: a node where the bits run out
 --   lookOn bs k         what the lookup answers
 --   addressBits         the 128 bits of four words
 --   numberOf, valuesOf  the paper's number of an answer, 0 where accepted, and its values
@@ -21,6 +20,7 @@ use lib.Dec.{leb, ltb, eqb}
 use lib.ListN.{length, getD}
 use Rattle.bits.specs.Bits.{Bits}
 use Rattle.bits.specs.Numbers.{bitsOf}
+use Rattle.refusals.specs.Refusals.{OneOf}
 use Rattle.zones.specs.Maps.{Entry, Map, longestMatch}
 use Rattle.image.specs.Image.{size24, IsImage}
 use Rattle.metadata.specs.Frames.{numberAt, countOn}
@@ -48,10 +48,6 @@ leafOn bs n r = cond (eqb r n) NoData (cond (ltb r (n + 16)) BadImage (entryOn b
 abbrev pub walkOn : List ℕ → ℕ → ℕ → Bits → Looked
 walkOn bs n i [] = BadImage
 walkOn bs n i (x ∷ k) = cond (ltb (recordIn bs i x) n) (walkOn bs n (recordIn bs i x) k) (leafOn bs n (recordIn bs i x))
-
-abbrev pub followOn : List ℕ → ℕ → ℕ → Bits → ℕ
-followOn bs n i [] = i
-followOn bs n i (x ∷ k) = cond (ltb (recordIn bs i x) n) (followOn bs n (recordIn bs i x) k) (recordIn bs i x)
 
 abbrev pub lookFrom : List ℕ → Counted → Bits → Looked
 lookFrom bs counted.Bad k = BadImage
@@ -85,6 +81,7 @@ foundOf (some e) = Zone (e .zone)
 pub record LookImage (bs : List ℕ) (k : Bits) (r : Looked) : Type 0 where
   -- one value on any bytes
   pub answer : r ≡ lookOn bs k
+  pub refusal : OneOf (0 ∷ 9 ∷ []) (numberOf r)
   -- "it is right for bytes the checker accepted": the longest match of any list that gives these bytes
   pub meaning : (m : Map) (epoch : ℕ) → IsImage size24 bs m epoch → r ≡ foundOf (longestMatch k m)
   -- "lookup met bytes no image has": never in an image

@@ -7,7 +7,8 @@ ghost use Prim.Native.Nat.{_+_, _*_, _≤_};
 ghost use mathlib.Core.Path.{_≡_};
 ghost use lib.ListN.{length};
 ghost use Rattle.bits.specs.Numbers.{bitsOf};
-ghost use Rattle.image_lookup.specs.Looking.{entryOn, leafOn, walkOn, followOn, addressBits, LookImage};
+ghost use Rattle.image_lookup.specs.Looking.{entryOn, leafOn, walkOn, addressBits, LookImage};
+ghost use Rattle.image_lookup.specs.Following.{followOn};
 
 // The answer: a zone number, no data there, or bytes that no image has.
 pub enum Looked {
@@ -33,7 +34,7 @@ pub fn look(bytes: &[u8], w0: u32, w1: u32, w2: u32, w3: u32) -> Looked
 }
 
 // The same where the node count is known, at most 128 records read.
-pub fn walk(bytes: &[u8], n: u32, w0: u32, w1: u32, w2: u32, w3: u32) -> Looked
+fn walk(bytes: &[u8], n: u32, w0: u32, w1: u32, w2: u32, w3: u32) -> Looked
     requires { ⌜ (6 ≤ length (now bytes)) × (6 * n ≤ length (now bytes)) ⌝ }
     ensures { λ r. ⌜ r ≡ walkOn (now (bytes .entry)) n 0 (addressBits w0 w1 w2 w3) ⌝ }
 {

@@ -9,7 +9,7 @@ use lib.Dec.{lit<}
 use lib.ListN.{length}
 use borrow.Author.Needs.{needs}
 use Rattle.bits.specs.Numbers.{bitsOf}
-use Rattle.image_lookup.specs.Looking.{followOn}
+use Rattle.image_lookup.specs.Following.{followOn}
 use Rattle.image_lookup.proofs.ReadingLaws.{followOn-next, followOn-stop, followOn-end}
 use Rattle.image_lookup.proofs.follow.Statement.{statement}
 use Rattle.image_lookup.proofs.follow.Tie as tie
