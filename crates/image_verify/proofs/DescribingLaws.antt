@@ -9,6 +9,7 @@ use mathlib.Core.List.{List, [], _∷_}
 use lib.Dec.{leb}
 use lib.ListN.{length}
 use borrow.Author.Tests.{le-leb, lt-leb}
+use Rattle.refusals.specs.Refusals.{OneOf}
 use Rattle.zones.specs.Maps.{Map}
 use Rattle.image.specs.Bytes.{uint32}
 use Rattle.image.specs.Image.{size24, forksOf, zonesOf, dataOf, IsImage}
@@ -16,7 +17,7 @@ use Rattle.metadata.specs.Frames.{frameOn}
 use Rattle.metadata.specs.declared.Framed.{Framed}
 use Rattle.metadata.specs.declared.Framed.the-variants as framed
 use Rattle.image_verify.specs.Verifying.{readOn}
-use Rattle.image_verify.specs.Describing.{countFrom, entryCount, describeOn, Describe}
+use Rattle.image_verify.specs.Describing.{countFrom, entryCount, describeOn, numberOf, valuesOf, Describe}
 use Rattle.image_verify.specs.declared.Described.{Described}
 use Rattle.image_verify.specs.declared.Described.the-variants.{Image, BadImage}
 use Rattle.image_verify.specs.declared.Read.{Read}
@@ -109,5 +110,21 @@ describeOn-image : (bs : List ℕ) (m : Map) (epoch : ℕ) → IsImage size24 bs
 describeOn-image bs m epoch is =
     describeOn-entries bs (length (forksOf m)) _ epoch (zonesOf (forksOf m)) (frame-image bs m epoch is) (parts-image bs m epoch is .entries)
 
+-- ---- the promise
+
+numberOf-oneOf : (r : Described) → OneOf (0 ∷ 9 ∷ []) (numberOf r)
+numberOf-oneOf (Image n k epoch) = tt
+numberOf-oneOf BadImage = tt
+
+valuesOf-refused : (r : Described) → numberOf r ≡ 9 → valuesOf r ≡ 0 ∷ 0 ∷ 0 ∷ []
+valuesOf-refused (Image n k epoch) h = absurd (omega arith)
+valuesOf-refused BadImage h = refl
+
 pub describe-promise : (bs : List ℕ) (r : Described) → r ≡ describeOn bs → Describe bs r
-describe-promise bs r e = record { answer = e; meaning = λ m epoch is. e ∙ describeOn-image bs m epoch is }
+describe-promise bs r e =
+    record {
+      answer = e;
+      refusal = numberOf-oneOf r;
+      kept = valuesOf-refused r;
+      meaning = λ m epoch is. let d = e ∙ describeOn-image bs m epoch is in (ap numberOf d, ap valuesOf d);
+    }

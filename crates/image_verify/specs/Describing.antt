@@ -11,6 +11,7 @@ use mathlib.Core.Bool.{cond}
 use mathlib.Core.List.{List, [], _∷_}
 use lib.Dec.{leb}
 use lib.ListN.{length}
+use Rattle.refusals.specs.Refusals.{OneOf}
 use Rattle.zones.specs.Maps.{Map}
 use Rattle.image.specs.Image.{size24, forksOf, zonesOf, IsImage}
 use Rattle.metadata.specs.Frames.{frameOn}
@@ -52,5 +53,9 @@ valuesOf BadImage = 0 ∷ 0 ∷ 0 ∷ []
 pub record Describe (bs : List ℕ) (r : Described) : Type 0 where
   -- one value on any bytes
   pub answer : r ≡ describeOn bs
+  pub refusal : OneOf (0 ∷ 9 ∷ []) (numberOf r)
+  -- "return zero counts"
+  pub kept : numberOf r ≡ 9 → valuesOf r ≡ 0 ∷ 0 ∷ 0 ∷ []
   -- on an image: its nodes, "the different zone numbers that some record uses", and its epoch
-  pub meaning : (m : Map) (epoch : ℕ) → IsImage size24 bs m epoch → r ≡ Image (length (forksOf m)) (length (zonesOf (forksOf m))) epoch
+  pub meaning : (m : Map) (epoch : ℕ) → IsImage size24 bs m epoch
+      → (numberOf r ≡ 0) × (valuesOf r ≡ length (forksOf m) ∷ length (zonesOf (forksOf m)) ∷ epoch ∷ [])

@@ -1,6 +1,7 @@
 -- Marks on the bytes of a stretch of the data section, turned over where an entry starts.
 -- Paper 01, "The image": "the different zone numbers that some record uses" (no entry but those, so that each mark
 -- of a record is met by one of a start).
+-- Internal: what the checker's own functions are held to; no public contract cites it.
 --   nextOf end x     where the next entry starts, `end` where there is none
 --   Flipped          the contract of `flip_starts`
 -- Assumes nothing.

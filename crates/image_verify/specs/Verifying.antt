@@ -1,6 +1,5 @@
 -- The image checker over any bytes, and its promise.
--- Paper 01, "The image": "The checker says yes exactly if the bytes are the image of some list of prefixes
--- and some epoch."
+-- Paper 01, "The image" and "Numbered refusals".
 --   readOn bs at end        the data entry at a byte of a data section that ends before `end`
 --   entriesOn f bs at end low   from `at` on there are entries up to `end`, in shortest form, ascending from low on
 --   startsAt f bs at end p  an entry starts at the byte p, the entries being read from `at` on
@@ -16,9 +15,8 @@ use Prim.Native.Nat.{ℕ, zero, suc, _+_, _-_, _*_}
 use mathlib.Core.Path.{_≡_}
 use mathlib.Core.Bool.{Bool, true, false, _&&_, _||_, not, cond}
 use mathlib.Core.List.{List, []}
-use lib.Dec.{T, leb, ltb, eqb}
+use lib.Dec.{leb, ltb, eqb}
 use lib.ListN.{length, getD}
-use Rattle.bits.specs.Lists.{all}
 use Rattle.zones.specs.Maps.{Map}
 use Rattle.image.specs.Image.{size24, IsImage}
 use Rattle.metadata.specs.Frames.{numberAt, frameOn}
@@ -134,7 +132,7 @@ verifyFrame bs (framed.Frame n end epoch) =
 unfoldable pub verifyOn : List ℕ → Bool
 verifyOn bs = verifyFrame bs (frameOn bs)
 
--- No. 9, BadImage: "checker says no"
+-- No. 9
 abbrev pub numberOf : Verified → ℕ
 numberOf Yes = 0
 numberOf BadImage = 9
@@ -148,7 +146,8 @@ valuesOf BadImage = []
 pub record VerifyImage (bs : List ℕ) (r : Verified) : Type 0 where
   -- one value on any bytes
   pub answer : r ≡ cond (verifyOn bs) Yes BadImage
-  -- "yes exactly if the bytes are the image of some list of prefixes and some epoch" (of bytes, as the machine
-  -- has them)
-  pub yes : T (all (λ b. ltb b 256) bs) → r ≡ Yes → (m : Map) × ((epoch : ℕ) × IsImage size24 bs m epoch)
-  pub exact : (m : Map) (epoch : ℕ) → IsImage size24 bs m epoch → r ≡ Yes
+  -- No. 9, BadImage: "checker says no"
+  pub number : numberOf r ≡ cond (verifyOn bs) 0 9
+  -- "yes exactly if the bytes are the image of some list of prefixes and some epoch"
+  pub yes : numberOf r ≡ 0 → (m : Map) × ((epoch : ℕ) × IsImage size24 bs m epoch)
+  pub exact : (m : Map) (epoch : ℕ) → IsImage size24 bs m epoch → numberOf r ≡ 0
