@@ -200,7 +200,7 @@ fork-fits s m h f i =
     (side-fits s m n zs h (f .right) (p .1) (λ z u. zonesOf-mem z (forksOf m) f i (or-right (uses z (f .left)) (uses z (f .right)) u)))
 
 -- the image's parts are short enough for 24 bits
-short-enough : (m : Map) → length m ≤ 65535 → T (all (λ e. leb (length (e .key)) 128) m) → T (all (λ e. ltb (e .zone) (2 ^ 32)) m)
+pub short-enough : (m : Map) → length m ≤ 65535 → T (all (λ e. leb (length (e .key)) 128) m) → T (all (λ e. ltb (e .zone) (2 ^ 32)) m)
     → length (forksOf m) + 16 + length (dataOf (zonesOf (forksOf m))) < 2 ^ 24
 short-enough m l w z =
     omega (arith, length-forksOf m w, length-zonesOf m, length-dataOf (zonesOf (forksOf m)) (λ y i. zone-below m z y (zonesOf-stored m y i)))
