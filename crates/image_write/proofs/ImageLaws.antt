@@ -27,7 +27,7 @@ use Rattle.image_data.specs.Runs.{lengthOf, DataAt}
 use Rattle.image_data.proofs.RunsLaws.{length-dataOf-runs}
 use Rattle.image_zones.specs.Used.{usedIn}
 use Rattle.image_zones.proofs.UsedLaws.{usedIn-topped}
-use Rattle.image_write.specs.Writing.{Uses}
+use Rattle.image_write.specs.Parts.{Uses}
 use Rattle.image_write.specs.Planting.{Rooted, Stands}
 use Rattle.image_write.specs.Whole.{Planned, lengthBy, Fills, filled}
 use Rattle.image_write.specs.declared.Plan.{Plan}

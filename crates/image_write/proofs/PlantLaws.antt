@@ -21,7 +21,7 @@ use Rattle.image.proofs.SetsLaws.{sets-before}
 use Rattle.image_data.specs.declared.Runs.{Runs}
 use Rattle.image_zones.specs.Used.{bothEnd}
 use Rattle.image_write.specs.Stalks.{stalkBytes, PutStalk}
-use Rattle.image_write.specs.Writing.{Reaches, Uses}
+use Rattle.image_write.specs.Parts.{Reaches, Uses}
 use Rattle.image_write.specs.Planting.{Stocked, Here, Planted, Grew, Grows}
 use Rattle.image_write.specs.declared.Grown.{Grown}
 use Rattle.image_write.proofs.PartLaws.{Seen, seen, length-way, size-end, size-fork}

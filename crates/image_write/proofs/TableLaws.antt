@@ -1,30 +1,31 @@
--- The laws of a table's map as an image: its prefixes and zones are narrow and few enough, and its forks and
--- zones are those of the trie that the table's tree grows into. No contract cites this file.
+-- The laws of a table's map as an image: its prefixes and zones are narrow and few enough, so that it has an
+-- image, and its forks and zones are those of the trie that the table's tree grows into. No contract cites this
+-- file.
 -- Assumes nothing.
 use Prim.Native.Nat.{ℕ, _+_, _*_, _^_, _≤_, _<_}
 use native.Mathlib.Omega.{arith}
-use mathlib.Core.Path.{_≡_, sym, ap, _∙_}
+use mathlib.Core.Path.{_≡_, refl, sym, ap, _∙_}
 use mathlib.Core.Logic.{inl, inr}
 use mathlib.Core.Bool.{Bool, true, false, cond}
-use mathlib.Core.List.{List, _++_, List·Memᴰ, List·Memᴰ·head, List·Memᴰ·append-cases, List·Memᴰ·not-nil, Memᴰ·of-map}
+use mathlib.Core.List.{List, _++_, List·Memᴰ, List·Memᴰ·head, List·Memᴰ·append-cases, List·Memᴰ·not-nil}
 use mathlib.Core.Option.{Option, none, some}
-use lib.Dec.{T, leb, ltb}
+use lib.Dec.{T, leb, ltb, le→leb, lt→ltb}
 use lib.ListN.{length, length-append, getD}
-use borrow.Author.Tests.{le-leb, lt-ltb}
 use Rattle.bits.specs.Lists.{all}
 use Rattle.bits.specs.Bits.{Bits}
 use Rattle.bits.specs.Numbers.{odd}
-use Rattle.bits.proofs.ListsLaws.{true-T, mem-all}
+use Rattle.bits.proofs.ListsLaws.{mem-all}
 use Rattle.zones.specs.Maps.{Entry, Map}
 use Rattle.zones.specs.Tree.{Tree, tip, node, own, entries}
 use Rattle.zones.proofs.TreeLaws.{mem-keys}
 use Rattle.records.specs.Layout.{recordAt, zoneOf}
 use Rattle.records.specs.Holds.{labels, Linked, Holds}
 use Rattle.records.proofs.OnceLaws.{length-once}
+use Rattle.records.proofs.HoldsLaws.{ascending-holds}
 use Rattle.records.proofs.EntriesLaws.{narrow-holds, length-holds}
-use Rattle.image.specs.Image.{dataOf, zonesOf, forksOf}
+use Rattle.image.specs.Image.{size24, dataOf, zonesOf, forksOf, image, IsImage}
 use Rattle.image.specs.Tries.{size, refs, topTrie}
-use Rattle.image.proofs.FitsLaws.{length-forksOf, zonesOf-stored, length-zonesOf, length-dataOf}
+use Rattle.image.proofs.FitsLaws.{zonesOf-stored, zone-below, short-enough, fits-table}
 use Rattle.image.proofs.PreorderLaws.{length-refs}
 use Rattle.image.proofs.GrowLaws.{forksOf-grow}
 
@@ -77,25 +78,29 @@ module _ (ws : List ℕ) (m : Map) (h : Holds ws m) where
 
   narrow-all : T (all (λ e. leb (length (e .key)) 128) m)
   narrow-all =
-      mem-all (λ e. leb (length (e .key)) 128) m
-      (λ e i. true-T (leb (length (e .key)) 128) (le-leb (length (e .key)) 128 (narrow-holds h (e .key) (mem-keys m e i))))
+      mem-all (λ e. leb (length (e .key)) 128) m (λ e i. le→leb (length (e .key)) 128 (narrow-holds h (e .key) (mem-keys m e i)))
 
   module _ (w : Machine ws) where
-    small-zones : (z : ℕ) → List·Memᴰ z (zonesOf (forksOf m)) → z < 2 ^ 32
-    small-zones z i =
-        let u = Memᴰ·of-map (λ e. e .zone) m (zonesOf-stored m z i) in
-        rw (← (u .2)) (small-entries ws w _ (h .tree) (h .linked) (u .0) (rw (h .map-is) (u .1)))
+    zoned-all : T (all (λ e. ltb (e .zone) (2 ^ 32)) m)
+    zoned-all =
+        mem-all (λ e. ltb (e .zone) (2 ^ 32)) m
+        (λ e i. lt→ltb (e .zone) (2 ^ 32) (small-entries ws w _ (h .tree) (h .linked) e (rw (h .map-is) i)))
 
     pub zones-fit : T (all (λ z. ltb z (2 ^ 32)) (zonesOf (forksOf m)))
-    zones-fit = mem-all (λ z. ltb z (2 ^ 32)) (zonesOf (forksOf m)) (λ z i. true-T (ltb z (2 ^ 32)) (lt-ltb z (2 ^ 32) (small-zones z i)))
+    zones-fit =
+        mem-all (λ z. ltb z (2 ^ 32)) (zonesOf (forksOf m)) (λ z i. lt→ltb z (2 ^ 32) (zone-below m zoned-all z (zonesOf-stored m z i)))
 
-    -- "every table's list does"
     pub records-fit : length (forksOf m) + 16 + length (dataOf (zonesOf (forksOf m))) ≤ 2 ^ 24
-    records-fit =
-        omega (
-          arith,
-          length-holds h,
-          length-forksOf m narrow-all,
-          length-zonesOf m,
-          length-dataOf (zonesOf (forksOf m)) small-zones,
-        )
+    records-fit = omega (arith, short-enough m (length-holds h) narrow-all zoned-all)
+
+    -- "every table's list does" have an image
+    pub isImage-holds : (epoch : ℕ) → epoch < 2 ^ 64 → IsImage size24 (image size24 m epoch) m epoch
+    isImage-holds epoch small =
+        record {
+          ascends = ascending-holds h;
+          narrow = narrow-all;
+          zones-fit = zoned-all;
+          records-fit = fits-table m (ascending-holds h) (length-holds h) narrow-all zoned-all size24;
+          epoch-fits = small;
+          bytes-are = refl;
+        }

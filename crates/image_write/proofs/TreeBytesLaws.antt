@@ -18,7 +18,7 @@ use Rattle.image.proofs.PreorderLaws.{length-refs}
 use Rattle.image.proofs.SetsLaws.{sets-before, sets-after}
 use Rattle.image_zones.specs.Used.{usedIn}
 use Rattle.image_write.specs.Stalks.{wayIn, stalkBytes}
-use Rattle.image_write.specs.Writing.{Reaches, Uses}
+use Rattle.image_write.specs.Parts.{Reaches, Uses}
 
 -- ---- Uses
 

@@ -1,89 +1,98 @@
 -- The laws of `write`: one for each way out. No contract cites this file.
+--   Checked    what is known once the words are checked
 -- Assumes nothing.
-use Prim.Native.Nat.{ℕ, _^_, _≤_, _<_}
+use Prim.Native.Nat.{ℕ, suc, _^_, _≤_, _<_}
 use native.Mathlib.Omega.{arith}
-use mathlib.Core.Path.{_≡_, refl, ap, _∙_}
-use mathlib.Core.Bool.{false}
-use mathlib.Core.List.{List}
+use mathlib.Core.Path.{_≡_, refl, sym, ap, _∙_}
+use mathlib.Core.List.{List, [], _∷_}
 use lib.ListN.{length}
 use Rattle.zones.specs.Maps.{Map}
-use Rattle.records.specs.Layout.{isTable}
 use Rattle.records.specs.Holds.{Holds}
 use Rattle.audit.specs.Checking.{auditOn, Check}
-use Rattle.audit.specs.Checking as checking
 use Rattle.audit.specs.declared.Audited.{Audited}
 use Rattle.audit.specs.declared.Audited.the-variants as audited
-use Rattle.image.specs.Image.{size24, imageLength}
+use Rattle.image.specs.Image.{size24, image, imageLength, IsImage}
 use Rattle.image_data.specs.Runs.{lengthOf}
-use Rattle.image_write.specs.Writing.{WriteImage}
+use Rattle.image_write.specs.Writing.{numberOf, valuesOf, refusalOf, WriteImage}
 use Rattle.image_write.specs.Whole.{Planned, lengthBy, Fills, filled}
 use Rattle.image_write.specs.declared.Plan.{Plan}
+use Rattle.image_write.specs.declared.Written.{Written}
 use Rattle.image_write.specs.declared.Written.the-variants.{Wrote, BadLength, Damaged, ShortOut}
-use Rattle.image_write.proofs.TableLaws.{Machine}
+use Rattle.image_write.proofs.TableLaws.{Machine, isImage-holds}
 use Rattle.image_write.proofs.ImageLaws.{runs-small, lengthBy-imageLength}
 
-module _ (ws : List ℕ) (epoch : ℕ) (out : List ℕ) (x : Audited) (k : Check ws x) where
-  -- ---- a refusal of the table
+-- the words and the epoch are the machine's, and x is what the check says of the words
+pub record Checked (ws : List ℕ) (epoch : ℕ) (x : Audited) : Type 0 where
+  pub words : Machine ws
+  pub small : epoch < 2 ^ 64
+  pub check : Check ws x
 
-  no-map : (m : Map) → Holds ws m → (x ≡ audited.Yes → ⊥) → ⊥
-  no-map m h n = n (k .exact m h)
+module _ {ws : List ℕ} {epoch : ℕ} {x : Audited} (k : Checked ws epoch x) where
+  image-checked : (m : Map) → Holds ws m → IsImage size24 (image size24 m epoch) m epoch
+  image-checked m h = isImage-holds ws m h (k .words) epoch (k .small)
 
-  pub write-bad-length : x ≡ audited.BadLength → WriteImage ws epoch out BadLength out
-  write-bad-length e =
-      let n : x ≡ audited.Yes → ⊥ = λ y. let z : _≡_ {A = ℕ} 0 1 = cc in omega arith in
+  refusal-checked : (y : Audited) → x ≡ y → refusalOf (auditOn ws) ≡ refusalOf y
+  refusal-checked y e = ap refusalOf (sym (k .check .answer) ∙ e)
+
+  -- ---- a refusal of the words
+
+  write-refused : (out : List ℕ) (r : Written) (n : ℕ) → refusalOf (auditOn ws) ≡ suc n → numberOf r ≡ suc n → valuesOf r ≡ 0 ∷ []
+      → WriteImage ws epoch out r out
+  write-refused out r n e f g =
+      let none : (m : Map) → Holds ws m → ⊥ = λ m h. omega (arith, refusal-checked audited.Yes (k .check .exact m h)) in
       record {
-        bad-length = λ f. (refl, refl);
-        damaged = λ f. let a = k .answer in let z : _≡_ {A = ℕ} 0 1 = cc in absurd (omega arith);
-        short = λ m h f. absurd (no-map m h n);
-        written = λ m h f. absurd (no-map m h n);
+        refusal = rw e f;
+        counts = λ i j. g;
+        kept = λ i j. refl;
+        short = λ m h s. absurd (none m h);
+        written = λ m h s. absurd (none m h);
+        image-is = image-checked;
       }
 
-  table-length : (numberIs : checking.numberOf x ≡ 0) → isTable (length ws) ≡ false → ⊥
-  table-length e f = let i = k .refusal .1 f in omega arith
+  pub write-bad-length : (out : List ℕ) → x ≡ audited.BadLength → WriteImage ws epoch out BadLength out
+  write-bad-length out e = write-refused out BadLength 0 (refusal-checked audited.BadLength e) refl refl
 
-  pub write-damaged : x ≡ audited.No → WriteImage ws epoch out Damaged out
-  write-damaged e =
-      let n : x ≡ audited.Yes → ⊥ = λ y. let z : _≡_ {A = ℕ} 0 1 = cc in omega arith in
-      record {
-        bad-length = λ f. absurd (table-length (ap checking.numberOf e) f);
-        damaged = λ f. (refl, refl);
-        short = λ m h f. absurd (no-map m h n);
-        written = λ m h f. absurd (no-map m h n);
-      }
+  pub write-damaged : (out : List ℕ) → x ≡ audited.No → WriteImage ws epoch out Damaged out
+  write-damaged out e = write-refused out Damaged 5 (refusal-checked audited.No e) refl refl
 
   -- ---- a table
 
-  pub plan-small : x ≡ audited.Yes → Machine ws → (p : Plan) → ((m : Map) → Holds ws m → Planned ws m p) → lengthOf (p .runs) ≤ 2 ^ 24
-  plan-small e w p q = let u = k .yes e in runs-small ws (u .0) (u .1) p (q (u .0) (u .1)) w epoch
+  module _ (e : x ≡ audited.Yes) (p : Plan) (q : (m : Map) → Holds ws m → Planned ws m p) where
+    pub plan-small : lengthOf (p .runs) ≤ 2 ^ 24
+    plan-small = let u = k .check .yes e in runs-small ws (u .0) (u .1) p (q (u .0) (u .1)) (k .words) epoch
 
-  module _ (e : x ≡ audited.Yes) (w : Machine ws) (p : Plan) (q : (m : Map) → Holds ws m → Planned ws m p) (n : ℕ) (l : n ≡ lengthBy p epoch) where
-    length-is : (m : Map) → Holds ws m → n ≡ imageLength size24 m epoch
-    length-is m h = l ∙ lengthBy-imageLength ws m h p (q m h) w epoch
+    module _ (out : List ℕ) (n : ℕ) (l : n ≡ lengthBy p epoch) where
+      length-is : (m : Map) → Holds ws m → n ≡ imageLength size24 m epoch
+      length-is m h = l ∙ lengthBy-imageLength ws m h p (q m h) (k .words) epoch
 
-    not-damaged : auditOn ws ≡ audited.No → ⊥
-    not-damaged f = let a = k .answer in let z : _≡_ {A = ℕ} 0 1 = cc in omega arith
+      pub write-short : length out < n → WriteImage ws epoch out (ShortOut n) out
+      write-short s =
+          let z = refusal-checked audited.Yes e in
+          record {
+            refusal = rw z tt;
+            counts = λ i j. absurd (omega arith);
+            kept = λ i j. refl;
+            short = λ m h f. (refl, ap (λ (i : ℕ). i ∷ []) (length-is m h));
+            written = λ m h f. absurd (omega (arith, length-is m h));
+            image-is = image-checked;
+          }
 
-    pub write-short : length out < n → WriteImage ws epoch out (ShortOut n) out
-    write-short s =
-        record {
-          bad-length = λ f. absurd (table-length (ap checking.numberOf e) f);
-          damaged = λ f. absurd (not-damaged f);
-          short = λ m h f. (ap ShortOut (length-is m h), refl);
-          written = λ m h f. absurd (omega (arith, length-is m h));
-        }
+      pub fills-table : n ≤ length out → Fills ws p epoch out
+      fills-table s =
+          let u = k .check .yes e in
+          record { map = u .0; holds = u .1; planned = q (u .0) (u .1); room = omega (arith, length-is (u .0) (u .1)) }
 
-    pub fills-table : n ≤ length out → Fills ws p epoch out
-    fills-table s =
-        let u = k .yes e in
-        record { map = u .0; holds = u .1; planned = q (u .0) (u .1); room = omega (arith, length-is (u .0) (u .1)) }
-
-    pub write-wrote : n ≤ length out → (after : List ℕ) → ((f : Fills ws p epoch out) → after ≡ filled (f .map) epoch out)
-        → WriteImage ws epoch out (Wrote n) after
-    unfolding filled
-    write-wrote s after g =
-        record {
-          bad-length = λ f. absurd (table-length (ap checking.numberOf e) f);
-          damaged = λ f. absurd (not-damaged f);
-          short = λ m h f. absurd (omega (arith, length-is m h));
-          written = λ m h f. (ap Wrote (length-is m h), g (record { map = m; holds = h; planned = q m h; room = f }));
-        }
+      pub write-wrote : n ≤ length out → (after : List ℕ) → ((f : Fills ws p epoch out) → after ≡ filled (f .map) epoch out)
+          → WriteImage ws epoch out (Wrote n) after
+      unfolding filled
+      write-wrote s after g =
+          let z = refusal-checked audited.Yes e in
+          record {
+            refusal = rw z tt;
+            counts = λ i j. absurd (omega arith);
+            kept = λ i j. absurd (omega arith);
+            short = λ m h f. absurd (omega (arith, length-is m h));
+            written =
+                λ m h f. (refl, ap (λ (i : ℕ). i ∷ []) (length-is m h), g (record { map = m; holds = h; planned = q m h; room = f }));
+            image-is = image-checked;
+          }

@@ -1,6 +1,7 @@
 -- A part of a table's tree with its place in an image: what the writer asks before it writes the part, and
 -- what it then leaves.
 -- Paper 01, "The image".
+-- Internal: what the writer's own functions are held to; no public contract cites it.
 --   Stocked    an output that has its data section
 --   Here       what the record of a node's own zone leads to
 --   Planted    a part of the tree, the zone above it, and the data section that the output already has
@@ -23,7 +24,7 @@ use Rattle.image.specs.Image.{size24, dataOf, recordOf, treeBytes}
 use Rattle.image.specs.Tries.{size, ref, refs, nearer, topped, grow}
 use Rattle.image_data.specs.Runs.{runsOf, DataAt}
 use Rattle.image_data.specs.declared.Runs.{Runs}
-use Rattle.image_write.specs.Writing.{Reaches, Uses}
+use Rattle.image_write.specs.Parts.{Reaches, Uses}
 use Rattle.image_write.specs.declared.Grown.{Grown}
 
 -- the data section zs stands in an output after n nodes, in the given runs, and every record fits 24 bits

@@ -1,6 +1,7 @@
 -- The bytes of a way of single steps in the search tree.
 -- Paper 01, "The image": each proper prefix of a stored string is a node, though the table's tree keeps none
 -- where only one way goes on.
+-- Internal: what the writer's own functions are held to; no public contract cites it.
 --   wayIn xs m t       the record that leads to a way by the bits xs whose first node is m, and then to t
 --   stepBytes          a node on the way: it goes on by one side, and the other holds what is above
 --   stalkBytes         all its nodes

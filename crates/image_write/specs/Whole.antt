@@ -1,5 +1,6 @@
 -- The whole image of a table: what is measured before anything is written, and how its parts come together.
 -- Paper 01, "The image".
+-- Internal: what the writer's own functions are held to; no public contract cites it.
 --   Planned      what is measured is what the image of the map has
 --   lengthBy     the image's length, from what is measured
 --   Fills        a table, what is measured of it, and an output with room for its image
