@@ -1,5 +1,6 @@
 -- The data section in runs: how many entries of each length there are, and where each run starts.
 -- Paper 01, "The image": "ascending, each once, as MaxMind uint32".
+-- Internal: what the writer's own functions are held to; no public contract cites it.
 --   runOf s zs         the numbers of zs that take s bytes
 --   countOf s zs       how many they are
 --   runsOf zs          that for 0 to 4 bytes

@@ -1,5 +1,6 @@
 -- The zone numbers that a part of an image uses.
 -- Paper 01, "The image": "the different zone numbers that some record uses".
+-- Internal: what the writer's own functions are held to; no public contract cites it.
 --   zoneIn above        the zone above a place, as what a leaf holds
 --   usedIn t            the zone numbers of the leaves of a trie
 --   beside a n o        those of the leaves beside a way from a bits to n

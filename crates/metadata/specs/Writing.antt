@@ -1,4 +1,5 @@
 -- What a call that writes bytes promises, and one that reads a number.
+-- Internal: what the writer's and the readers' own functions are held to; no public contract cites it.
 --   between                 the metadata's bytes from the node count to the epoch's key
 --   Put old at vs new r     the bytes vs stand in new from `at` on, all others are as in old, and r is their end
 --   NumberAt bs at n r      r is the number of n bytes from `at` on
