@@ -1,2 +1,7 @@
-pub mod ShippedLaws
+pub mod MadeLaws
 pub mod AnswersLaws
+pub mod SequencesLaws
+pub mod ListingsLaws
+pub mod FirstLaws
+pub mod SecondLaws
+pub mod ThirdLaws

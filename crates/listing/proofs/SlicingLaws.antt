@@ -29,7 +29,7 @@ use Rattle.listing.specs.declared.Seek.the-variants as seek
 use Rattle.listing.specs.declared.Toured.{Toured}
 use Rattle.listing.specs.declared.Toured.the-variants as toured
 use Rattle.listing.specs.declared.Sliced.{Sliced}
-use Rattle.listing.specs.declared.Sliced.the-variants.{Given, Damaged}
+use Rattle.listing.specs.declared.Sliced.the-variants.{Given, BadLength, BadPrefix, BadSize, ShortOut, Damaged}
 use Rattle.listing.proofs.TouringLaws.{startOn-few}
 use Rattle.listing.proofs.TourOnLaws.{Within, tourFrom-within}
 use Rattle.listing.proofs.HoldsLaws.{sliceOn-holds, sliceOn-written}
@@ -178,17 +178,23 @@ slidingOf-exact ws r b us refused.BadSize = refl
 slidingOf-exact ws r b us refused.ShortOut = refl
 slidingOf-exact ws r b us refused.No = let s = startOn ws r (replicate 129 0) in soughtFrom-given ws b us (s .links) (s .out)
 
--- a refusal leaves the output
-abbrev Kept : List ℕ → Sliding → Type 0
-Kept us s = (valuesOf (s .answer) ≡ 0 ∷ 0 ∷ 0 ∷ []) × (s .words ≡ us)
+-- a refusal has zero counts
+valuesOf-refused : (x : Sliced) (n : ℕ) → numberOf x ≡ suc n → valuesOf x ≡ 0 ∷ 0 ∷ 0 ∷ []
+valuesOf-refused (Given k more c) n h = cc
+valuesOf-refused BadLength n h = refl
+valuesOf-refused BadPrefix n h = refl
+valuesOf-refused BadSize n h = refl
+valuesOf-refused ShortOut n h = refl
+valuesOf-refused Damaged n h = refl
 
+-- and one of what is asked leaves the output
 slidingOf-kept : (ws : List ℕ) (r : Resume) (b : ℕ) (us : List ℕ) (y : Refused) (n : ℕ) → numberOfRefused y ≡ suc n
-    → Kept us (slidingOf ws r b us y)
-slidingOf-kept ws r b us refused.BadLength n h = (refl, refl)
-slidingOf-kept ws r b us refused.BadPrefix n h = (refl, refl)
-slidingOf-kept ws r b us refused.BadSize n h = (refl, refl)
-slidingOf-kept ws r b us refused.ShortOut n h = (refl, refl)
-slidingOf-kept ws r b us refused.No n h = (cc, cc)
+    → slidingOf ws r b us y .words ≡ us
+slidingOf-kept ws r b us refused.BadLength n h = refl
+slidingOf-kept ws r b us refused.BadPrefix n h = refl
+slidingOf-kept ws r b us refused.BadSize n h = refl
+slidingOf-kept ws r b us refused.ShortOut n h = refl
+slidingOf-kept ws r b us refused.No n h = cc
 
 -- the table's words are of 32 bits, as the machine has them
 pub slice-promise : (ws : List ℕ) (r : Resume) (b : ℕ) (us : List ℕ) (x : Sliced) (after : List ℕ) → ((i : ℕ) → getD ws i 0 < 2 ^ 32)
@@ -199,7 +205,8 @@ slice-promise ws r b us x after words e =
     record {
       answer = e;
       refusal = subst (Exact y) e (slidingOf-exact ws r b us y);
-      kept = λ n h. subst (Kept us) e (slidingOf-kept ws r b us y n h);
+      counts = valuesOf-refused x;
+      kept = λ n h. ap (λ (s : Sliding). s .words) (sym e) ∙ slidingOf-kept ws r b us y n h;
       meaning = λ m h q. ap (λ (s : Sliding). s .answer) (sym e) ∙ sliceOn-holds ws r b us m h q;
       written = λ m h q. ap (λ (s : Sliding). s .words) (sym e) ∙ sliceOn-written ws r b us m h words q;
     }

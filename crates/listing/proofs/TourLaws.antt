@@ -188,7 +188,7 @@ pub record Tours (b : ℕ) (us : List ℕ) (is : List Item) (x : Touring) : Type
   pub out : x .out ≡ toured.Done (length (take b (storedIn is))) (not (isEmpty (past b is))) (length (upTo b is))
   pub words : x .words ≡ wordsOf (take b (storedIn is)) ++ drop (6 * length (take b (storedIn is))) us
 
-length-wordsOf : (m : Map) → length (wordsOf m) ≡ 6 * length m
+pub length-wordsOf : (m : Map) → length (wordsOf m) ≡ 6 * length m
 length-wordsOf [] = refl
 length-wordsOf (e ∷ m) = rw (length-wordsOf m) (omega arith)
 

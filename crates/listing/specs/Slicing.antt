@@ -127,8 +127,10 @@ pub record Slice (ws : List ℕ) (r : Resume) (b : ℕ) (us : List ℕ) (x : Sli
   pub answer : sliceOn ws r b us ≡ record { answer = x; words = after }
   -- "The first that applies, in this order, is given"
   pub refusal : GivenExactly (numberOfRefused (refusedOf (length ws) r b (length us))) (0 ∷ 6 ∷ []) (numberOf x)
-  -- "leave every lent byte and word, except that a Damaged listing .. may have written its output"
-  pub kept : (n : ℕ) → numberOfRefused (refusedOf (length ws) r b (length us)) ≡ suc n → (valuesOf x ≡ 0 ∷ 0 ∷ 0 ∷ []) × (after ≡ us)
+  -- "return zero counts and leave every lent byte and word, except that a Damaged listing .. may have written its
+  -- output"
+  pub counts : (n : ℕ) → numberOf x ≡ suc n → valuesOf x ≡ 0 ∷ 0 ∷ 0 ∷ []
+  pub kept : (n : ℕ) → numberOfRefused (refusedOf (length ws) r b (length us)) ≡ suc n → after ≡ us
   -- on words that hold a map, where no refusal applies: what is given, whether more remain, and the count
   pub meaning : (m : Map) → Holds ws m → refusedOf (length ws) r b (length us) ≡ refused.No
       → x ≡ Given (length (given m (resumeOf r) b)) (remains m (resumeOf r) b) (count m (resumeOf r) b)

@@ -1,6 +1,7 @@
 -- The laws of how refusals are given. No contract cites this file.
 -- Assumes nothing.
 use Prim.Native.Nat.{ℕ, zero, suc}
+use native.Mathlib.Omega.{arith}
 use mathlib.Core.Path.{_≡_, refl, sym, subst}
 use mathlib.Core.Bool.{Bool, true, false, _||_}
 use mathlib.Core.List.{List, [], _∷_}
@@ -20,3 +21,8 @@ exactly-walk zero rest n r g same done six = at (eqb n 0) (eqb n 6) refl refl g
     at : (a b : Bool) → eqb n 0 ≡ a → eqb n 6 ≡ b → T (a || (b || false)) → OneOf rest r
     at true b e f h = done (eqb-true n 0 e)
     at false true e f h = subst (OneOf rest) (sym (same 5 (eqb-true n 6 f))) six
+
+-- where a call accepts, no refusal of its arguments applies
+pub exactly-accepted : (first : ℕ) (rest : List ℕ) (n : ℕ) → GivenExactly first rest n → n ≡ 0 → first ≡ 0
+exactly-accepted zero rest n g e = refl
+exactly-accepted (suc first) rest n g e = absurd (omega (arith, g, e))

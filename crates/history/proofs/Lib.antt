@@ -1,3 +1,0 @@
-pub mod ReachedLaws
-pub mod SequencesLaws
-pub mod AcceptedLaws

@@ -1,3 +1,0 @@
-pub mod Reached
-pub mod Sequences
-pub mod Accepted
