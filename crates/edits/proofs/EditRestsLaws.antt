@@ -34,6 +34,7 @@ use Rattle.lookup.specs.declared.Met.the-variants.{Matching, Mismatching}
 use Rattle.lookup.specs.declared.Surveyed.{Surveyed}
 use Rattle.lookup.specs.declared.Surveyed.the-variants as surveyed
 use Rattle.lookup.proofs.SurveyLaws.{surveyOn-cases}
+use Rattle.lookup.proofs.PathLinksLaws.{walkLinks, pathLinks-walk}
 use Rattle.lookup.proofs.RestsLaws.{surveyOn-rests}
 use Rattle.lookup.proofs.EndsLaws.{lowOf, Stood, StoodAt, EndedBy, Ended, surveyOn-ends}
 use Rattle.lookup.proofs.FramesLaws.{Along, AtTop, linkAt-path, below-path}
@@ -107,8 +108,9 @@ sameEnds-survey ws us k m h agree room ts n s e q =
     let f = focus top (h .tree) (stringOf k) in
     let last : x .last ≡ s = cc in
     let met : x .met ≡ e = cc in
-    rw (last, met) at (sameEnds-ended us ws (pathLinks (h .tree) (stringOf k))
-    (λ l i. lookOn-same us ws (agree .same-length) l (agree .same-records l i)) (f .above) (linkAt-path (h .tree) (stringOf k))
+    let same = rw (pathLinks-walk (h .tree) (stringOf k) (h .good)) at (agree .same-records) in
+    rw (last, met) at (sameEnds-ended us ws (walkLinks (h .tree) (stringOf k))
+    (λ l i. lookOn-same us ws (agree .same-length) l (same l i)) (f .above) (linkAt-path (h .tree) (stringOf k))
     (stringOf k) (x .last) (x .met) (f .below) (below-path (h .tree) (stringOf k)) (x .ended))
 
 -- ---- SameLooks, at the links of the spare chain, and at all that a store looks at

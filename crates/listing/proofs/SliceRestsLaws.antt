@@ -20,12 +20,11 @@ use Rattle.zones.proofs.TreeLaws.{nodes-entries}
 use Rattle.records.specs.Layout.{recordAt, headerAt, keyOf}
 use Rattle.records.specs.Holds.{Linked, Holds}
 use Rattle.records.proofs.HoldsLaws.{labels-room}
-use Rattle.lookup.specs.Paths.{Agree}
-use Rattle.lookup.proofs.HoldsLaws.{path-holds}
-use Rattle.lookup.proofs.PathsLaws.{pathLinks-strings}
+use Rattle.lookup.specs.Paths.{linksWhere, Agree}
+use Rattle.lookup.proofs.PathLinksLaws.{pathLinks-walk, pathLinks-strings}
 use Rattle.listing.specs.Touring.{seekFrom, startOn, Touring}
 use Rattle.listing.specs.Slicing.{refusedOf, touredOf, startedFrom, slidingOf, sliceOn, resumeOf}
-use Rattle.listing.specs.Resting.{linksWhere, pathLinksOf, sliceLinks}
+use Rattle.listing.specs.Resting.{pathLinksOf, sliceLinks}
 use Rattle.listing.specs.declared.Resume.{Resume}
 use Rattle.listing.specs.declared.Resume.the-variants.{Start, After}
 use Rattle.listing.specs.declared.Refused.{Refused}
@@ -76,8 +75,7 @@ module _ (ws : List ℕ) where
 module _ {ws : List ℕ} {m : Map} (h : Holds ws m) where
   pathLinksOf-strings : (r : Resume) → map (stringAt ws) (pathLinksOf (h .tree) r) ≡ wayTo m (resumeOf r)
   pathLinksOf-strings Start = refl
-  pathLinksOf-strings (After k) =
-      pathLinks-strings ws (headerAt ws .root) (h .tree) (stringOf k) (h .linked) ∙ sym (path-holds ws m h (stringOf k))
+  pathLinksOf-strings (After k) = pathLinks-strings h (stringOf k)
 
   -- they are the links of the nodes that a slice counts
   pub sliceLinks-strings : (r : Resume) (b : ℕ)
@@ -105,7 +103,8 @@ startOn-rests ws us Start m h v agree ls = rw (agree .same-header)
 startOn-rests ws us (After k) m h v agree ls =
     rw (agree .same-header)
     (seekOn-rests us ws (agree .same-length) k v (h .tree) [] 130 0 0 ls 0 (headerAt ws .root) (h .good)
-    (record { linked = h .linked; sound = labels-room h }) tt refl (agree .same-records))
+    (record { linked = h .linked; sound = labels-room h }) tt refl
+    (rw (pathLinks-walk (h .tree) (stringOf k) (h .good)) at (agree .same-records)))
 
 module _ (ws us : List ℕ) (r : Resume) (b : ℕ) (vs : List ℕ) (m : Map) (h : Holds ws m) (agree : Agree us ws (sliceLinks (h .tree) r b)) where
   -- the stack before the way, and the links of the nodes passed

@@ -22,7 +22,7 @@ use Rattle.prefix.specs.declared.Prefix.{Prefix}
 use Rattle.zones.specs.Tree.{Tree, tip, node, Good}
 use Rattle.zones.specs.Searching.{onward}
 use Rattle.records.specs.Layout.{recordAt}
-use Rattle.lookup.specs.Paths.{pathLinks}
+use Rattle.lookup.proofs.PathLinksLaws.{walkLinks}
 use Rattle.listing.specs.Touring.{pushOn, soughtOn, Seeking, afterOn, seekOn, visitOn, entryPut, turnOn, tourOn, tourFrom}
 use Rattle.listing.specs.declared.Sought.the-variants as sought
 use Rattle.listing.specs.declared.Visit.the-variants as visit
@@ -122,11 +122,11 @@ module _ (us ws : List ℕ) (length-same : length us ≡ length ws) where
     abbrev key : Bits
     key = stringOf k
 
-    -- a way reads the records of the path's nodes, and no other
+    -- a way reads the records of the nodes that a walk meets, and no other
     abbrev Seeks : Tree ℕ → Type 0
     Seeks t =
         (p : Bits) (f n low : ℕ) (ls : List ℕ) (o l : ℕ) → Good p t → Leads ws l t → T (isPrefix p key) → low ≡ length p
-        → Same (pathLinks t key) → seekOn f us k l low n ls o ≡ seekOn f ws k l low n ls o
+        → Same (walkLinks t key) → seekOn f us k l low n ls o ≡ seekOn f ws k l low n ls o
 
     soughtOn-same : (l low : ℕ) → recordAt us l ≡ recordAt ws l → soughtOn us k l low ≡ soughtOn ws k l low
     unfolding soughtOn
@@ -153,14 +153,14 @@ module _ (us ws : List ℕ) (length-same : length us ≡ length ws) where
       goes-done next side q = rw q
 
       goes-below : (x : Bool) (next side : ℕ) (t : Tree ℕ) → Seeks t → soughtOn ws k a low ≡ sought.On next (length z + 1) side
-          → Says (Below x) z key → Good (z ++ (x ∷ [])) t → Leads ws next t → Same (a ∷ pathLinks t key) → goes us ≡ goes ws
+          → Says (Below x) z key → Good (z ++ (x ∷ [])) t → Leads ws next t → Same (a ∷ walkLinks t key) → goes us ≡ goes ws
       unfolding afterOn
       goes-below x next side t seeks q y good leads same =
           rw q (seeks (z ++ (x ∷ [])) f (n + 1) (length z + 1) (pushOn ls o side .links) (pushOn ls o side .depth) next good leads y
           (sym (length-append z (x ∷ []))) (λ i j. same i (List·Memᴰ·tail j)))
 
       goes-same : Seeks l → Seeks r → (m : Meeting) → Says m z key
-          → Same (a ∷ onward m [] [] (pathLinks l key) (pathLinks r key)) → goes us ≡ goes ws
+          → Same (a ∷ onward m [] [] (walkLinks l key) (walkLinks r key)) → goes us ≡ goes ws
       goes-same sl sr Equal y same = goes-done _ _ (soughtOn-equal meets y)
       goes-same sl sr (Below false) y same =
           goes-below false _ _ l sl (soughtOn-below meets false y) y (g .2) (leads-left e) same

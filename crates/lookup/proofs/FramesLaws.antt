@@ -11,7 +11,7 @@ use Prim.Native.Nat.{ℕ, zero, suc, _/_, _<_}
 use native.Mathlib.Omega.{arith}
 use mathlib.Core.Path.{_≡_, refl, subst}
 use mathlib.Core.Bool.{Bool, true, false, cond}
-use mathlib.Core.List.{List, [], _∷_, _++_, List·Memᴰ, List·Memᴰ·head, List·Memᴰ·tail, List·Memᴰ·not-nil, Memᴰ·append-left, Memᴰ·append-right}
+use mathlib.Core.List.{List, [], _∷_, _++_, List·Memᴰ, List·Memᴰ·head, List·Memᴰ·tail, Memᴰ·append-left, Memᴰ·append-right}
 use mathlib.Core.Logic.{_⊎_, inl, inr}
 use mathlib.Core.Option.{Option}
 use lib.Dec.{T}
@@ -32,9 +32,9 @@ use Rattle.zones.specs.Focus.{Context, top, into, Focus, focus, linkAt}
 use Rattle.records.specs.Layout.{roomOf, recordAt, headerAt}
 use Rattle.records.specs.Holds.{labels, Bears, Linked, Holds}
 use Rattle.records.proofs.HoldsLaws.{labels-room}
-use Rattle.lookup.specs.Paths.{pathLinks}
 use Rattle.lookup.proofs.StepsLaws.{getD-next, width-bears}
 use Rattle.lookup.proofs.PathsLaws.{Rooms}
+use Rattle.lookup.proofs.PathLinksLaws.{walkLinks, walkLinks-labels}
 
 -- ---- Along and AtTop: what all links of the path have
 
@@ -56,10 +56,10 @@ module _ (P : ℕ → Type 0) (k : Bits) where
 
   -- the links of the path in t, and those above, are all that the focus has
   abbrev Keeps : Tree ℕ → Type 0
-  Keeps t = (c : Context ℕ) → ((a : ℕ) → List·Memᴰ a (pathLinks t k) → P a) → Along P c → Has (focus c t k)
+  Keeps t = (c : Context ℕ) → ((a : ℕ) → List·Memᴰ a (walkLinks t k) → P a) → Along P c → Has (focus c t k)
 
   focus-has-at : (a : ℕ) (s : Bits) (v : Option ℕ) (l r : Tree ℕ) (c : Context ℕ) → Keeps l → Keeps r → Along P c → (m : Meeting)
-      → ((b : ℕ) → List·Memᴰ b (a ∷ onward m [] [] (pathLinks l k) (pathLinks r k)) → P b)
+      → ((b : ℕ) → List·Memᴰ b (a ∷ onward m [] [] (walkLinks l k) (walkLinks r k)) → P b)
       → Has (onward m (record { above = c; below = node a s v l r }) (record { above = c; below = node a s v l r })
       (focus (into a s v false r c) l k) (focus (into a s v true l c) r k))
   focus-has-at a s v l r c kl kr i Equal h = (i, h a (List·Memᴰ·head refl))
@@ -74,37 +74,22 @@ module _ (P : ℕ → Type 0) (k : Bits) where
   focus-has tip c h i = (i, tt)
   focus-has (node a s v l r) c h i = focus-has-at a s v l r c (focus-has l) (focus-has r) i (meet s k) h
 
--- ---- pathLinks
+-- ---- walkLinks
 
--- the links above and below the focus are links of the path
+-- the links above and below the focus are links that the walk meets
 module _ (t : Tree ℕ) (k : Bits) where
-  pub linkAt-path : Along (λ a. List·Memᴰ a (pathLinks t k)) (focus top t k .above)
-  linkAt-path = focus-has (λ a. List·Memᴰ a (pathLinks t k)) k t top (λ a i. i) (λ n. inl refl) .0
+  pub linkAt-path : Along (λ a. List·Memᴰ a (walkLinks t k)) (focus top t k .above)
+  linkAt-path = focus-has (λ a. List·Memᴰ a (walkLinks t k)) k t top (λ a i. i) (λ n. inl refl) .0
 
-  pub below-path : AtTop (λ a. List·Memᴰ a (pathLinks t k)) (focus top t k .below)
-  below-path = focus-has (λ a. List·Memᴰ a (pathLinks t k)) k t top (λ a i. i) (λ n. inl refl) .1
-
-onward-labels : (m : Meeting) (ls rs xs ys : List ℕ) (a : ℕ) → (List·Memᴰ a ls → List·Memᴰ a xs) → (List·Memᴰ a rs → List·Memᴰ a ys)
-    → List·Memᴰ a (onward m [] [] ls rs) → List·Memᴰ a (xs ++ ys)
-onward-labels Equal ls rs xs ys a f g i = absurd (List·Memᴰ·not-nil i)
-onward-labels (Below false) ls rs xs ys a f g i = Memᴰ·append-left ys (f i)
-onward-labels (Below true) ls rs xs ys a f g i = Memᴰ·append-right xs (g i)
-onward-labels (Above x) ls rs xs ys a f g i = absurd (List·Memᴰ·not-nil i)
-onward-labels (Apart x) ls rs xs ys a f g i = absurd (List·Memᴰ·not-nil i)
-
-pub pathLinks-labels : (t : Tree ℕ) (k : Bits) (a : ℕ) → List·Memᴰ a (pathLinks t k) → List·Memᴰ a (labels t)
-pathLinks-labels tip k a i = i
-pathLinks-labels (node b s v l r) k a (List·Memᴰ·head e) = List·Memᴰ·head e
-pathLinks-labels (node b s v l r) k a (List·Memᴰ·tail i) =
-    List·Memᴰ·tail (onward-labels (meet s k) (pathLinks l k) (pathLinks r k) (labels l) (labels r) a
-    (pathLinks-labels l k a) (pathLinks-labels r k a) i)
+  pub below-path : AtTop (λ a. List·Memᴰ a (walkLinks t k)) (focus top t k .below)
+  below-path = focus-has (λ a. List·Memᴰ a (walkLinks t k)) k t top (λ a i. i) (λ n. inl refl) .1
 
 -- ---- roomOf
 
 -- the links above and below the focus have room
 module _ (ws : List ℕ) (m : Map) (h : Holds ws m) (k : Bits) where
-  room-path : (a : ℕ) → List·Memᴰ a (pathLinks (h .tree) k) → roomOf (length ws) a ≡ true
-  room-path a i = labels-room h a (pathLinks-labels (h .tree) k a i)
+  room-path : (a : ℕ) → List·Memᴰ a (walkLinks (h .tree) k) → roomOf (length ws) a ≡ true
+  room-path a i = labels-room h a (walkLinks-labels (h .tree) k a i)
 
   pub linkAt-room : Along (λ a. roomOf (length ws) a ≡ true) (focus top (h .tree) k .above)
   linkAt-room = focus-has (λ a. roomOf (length ws) a ≡ true) k (h .tree) top room-path (λ n. inl refl) .0

@@ -5,6 +5,7 @@ pub mod DescentLaws
 pub mod PassingLaws
 pub mod PathsLaws
 pub mod HoldsLaws
+pub mod PathLinksLaws
 pub mod RestsLaws
 pub mod EndsLaws
 pub mod FramesLaws

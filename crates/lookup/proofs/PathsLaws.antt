@@ -25,11 +25,10 @@ use Rattle.prefix.proofs.KeysLaws.{length-stringOf}
 use Rattle.zones.specs.Maps.{Entry}
 use Rattle.zones.specs.Tree.{Tree, tip, node, Good}
 use Rattle.zones.specs.Searching.{onward, walk, better, best}
-use Rattle.records.specs.Layout.{roomOf, recordAt, keyOf, zoneOf}
+use Rattle.records.specs.Layout.{roomOf, recordAt, zoneOf}
 use Rattle.records.specs.Holds.{labels, Bears, Linked}
 use Rattle.records.specs.declared.Record.{Record}
 use Rattle.lookup.specs.Walking.{sharedOn, downOn, seenOn, Survey, afterOn, walkOn}
-use Rattle.lookup.specs.Paths.{pathLinks}
 use Rattle.lookup.specs.declared.Walk.{Walk}
 use Rattle.lookup.specs.declared.Met.{Met}
 use Rattle.lookup.specs.declared.Met.the-variants.{Matching, Mismatching}
@@ -190,24 +189,3 @@ module _ (ws : List ℕ) (k : Prefix) where
         rw (stepOn-node ws k s a (e .0) (rooms a (List·Memᴰ·head refl)))
         (walkOn-linked-at a z v l r p o f n ts s g e st (walkOn-linked l) (walkOn-linked r) rooms (meet z (stringOf k))
         (meet-says z (stringOf k)))
-
--- ---- pathLinks
-
-onward-map : (f : ℕ → Bits) (m : Meeting) (ls rs : List ℕ) → map f (onward m [] [] ls rs) ≡ onward m [] [] (map f ls) (map f rs)
-onward-map f Equal ls rs = refl
-onward-map f (Below false) ls rs = refl
-onward-map f (Below true) ls rs = refl
-onward-map f (Above x) ls rs = refl
-onward-map f (Apart x) ls rs = refl
-
--- the links of the path's nodes have the path's nodes
-pub pathLinks-strings : (ws : List ℕ) (l : ℕ) (t : Tree ℕ) (k : Bits) → Linked (recordAt ws) l t
-    → map (λ a. stringOf (keyOf (recordAt ws a))) (pathLinks t k) ≡ walk t k
-pathLinks-strings ws l tip k e = refl
-pathLinks-strings ws l (node a z v x y) k e =
-    rw (
-      onward-map (λ b. stringOf (keyOf (recordAt ws b))) (meet z k) (pathLinks x k) (pathLinks y k),
-      pathLinks-strings ws (recordAt ws a .left) x k (e .2),
-      pathLinks-strings ws (recordAt ws a .right) y k (e .3),
-      e .1 .string,
-    )

@@ -35,6 +35,7 @@ use Rattle.lookup.specs.declared.Walk.{Walk}
 use Rattle.lookup.specs.declared.Step.{Step}
 use Rattle.lookup.specs.declared.Step.the-variants.{Down, Last, End, Bad}
 use Rattle.lookup.specs.declared.Surveyed.the-variants.{BadPrefix, ShortOut}
+use Rattle.lookup.proofs.PathLinksLaws.{walkLinks, pathLinks-walk}
 use Rattle.lookup.proofs.StepsLaws.{sharedOn-above, sharedOn-apart, sideOn-equal, sideOn-below, stepOn-end}
 
 -- ---- afterOn: what comes after a step is alike if it is where the step goes down
@@ -73,7 +74,7 @@ module _ (us ws : List ℕ) (k : Prefix) (v : Valid k) (length-same : length us 
 
   abbrev Rests : Tree ℕ → Type 0
   Rests t =
-      (f n : ℕ) (ts : List ℕ) (s : Walk) → Linked (recordAt ws) (s .next) t → Same (pathLinks t (stringOf k))
+      (f n : ℕ) (ts : List ℕ) (s : Walk) → Linked (recordAt ws) (s .next) t → Same (walkLinks t (stringOf k))
       → walkOn f us k n ts s ≡ walkOn f ws k n ts s
 
   stepOn-same : (s : Walk) → recordAt us (s .next) ≡ recordAt ws (s .next) → stepOn us k s ≡ stepOn ws k s
@@ -92,7 +93,7 @@ module _ (us ws : List ℕ) (k : Prefix) (v : Valid k) (length-same : length us 
     here = recordAt ws a
 
     rests-below : (x : Bool) (t : Tree ℕ) → Rests t → Linked (recordAt ws) (cond x (here .right) (here .left)) t
-        → Says (Below x) z (stringOf k) → Same (a ∷ pathLinks t (stringOf k)) → (f n : ℕ) (ts : List ℕ)
+        → Says (Below x) z (stringOf k) → Same (a ∷ walkLinks t (stringOf k)) → (f n : ℕ) (ts : List ℕ)
         → walkOn f us k n ts (downOn here k s) ≡ walkOn f ws k n ts (downOn here k s)
     unfolding downOn
     rests-below x t rests linked y same f n ts =
@@ -100,7 +101,7 @@ module _ (us ws : List ℕ) (k : Prefix) (v : Valid k) (length-same : length us 
         rests f n ts (downOn here k s) next (λ i j. same i (List·Memᴰ·tail j))
 
     rests-at : Rests l → Rests r → (f n : ℕ) (ts : List ℕ) (m : Meeting) → Says m z (stringOf k)
-        → Same (a ∷ onward m [] [] (pathLinks l (stringOf k)) (pathLinks r (stringOf k)))
+        → Same (a ∷ onward m [] [] (walkLinks l (stringOf k)) (walkLinks r (stringOf k)))
         → here .tag / 2 ≤ sharedOn here k → walkOn f us k n ts (downOn here k s) ≡ walkOn f ws k n ts (downOn here k s)
     unfolding downOn
     rests-at rl rr f n ts Equal y same h =
@@ -135,7 +136,8 @@ module _ (ws us : List ℕ) (k : Prefix) (m : Map) (h : Holds ws m) (agree : Agr
   unfolding walkFrom startOn
   walkFrom-rests v ts =
       rw (agree .same-header)
-      (walkOn-rests us ws k v (agree .same-length) (h .tree) 130 0 ts (startOn ws) (h .linked) (agree .same-records))
+      (walkOn-rests us ws k v (agree .same-length) (h .tree) 130 0 ts (startOn ws) (h .linked)
+      (rw (pathLinks-walk (h .tree) (stringOf k) (h .good)) at (agree .same-records)))
 
   pub surveyOn-rests : (room : ℕ) (ts : List ℕ) → surveyOn us k room ts ≡ surveyOn ws k room ts
   unfolding surveyOn
