@@ -10,7 +10,7 @@ use mathlib.Core.Option.{Option, none, some, Option·some-injective}
 use lib.Dec.{T, leb, le→leb}
 use lib.ListN.{length, getD, take, drop}
 use lib.Seq.{take-at}
-use Rattle.bits.specs.Lists.{all, each, keep}
+use Rattle.bits.specs.Lists.{all, keep}
 use Rattle.bits.specs.Bits.{Bits, equal, member}
 use Rattle.bits.proofs.ListsLaws.{mem-all, and-both}
 use Rattle.refusals.proofs.RefusalsLaws.{exactly-accepted}
@@ -19,7 +19,8 @@ use Rattle.prefix.proofs.KeysLaws.{length-stringOf}
 use Rattle.zones.specs.Maps.{Entry, Map, keys, ascending}
 use Rattle.zones.specs.Nodes.{nodes}
 use Rattle.zones.specs.Slices.{given, remains, count}
-use Rattle.zones.specs.Listings.{Turn, turns, next, listed, counted, pathed, ended}
+use Rattle.zones.specs.Listings.{next, pathed}
+use Rattle.zones.specs.WholeListings.{turns, listed, counted, ended}
 use Rattle.zones.proofs.SlicesLaws.{listed-once}
 use Rattle.zones.proofs.CountLaws.{counted-whole, count-bound}
 use Rattle.zones.proofs.TreeLaws.{keys-append}
@@ -33,7 +34,6 @@ use Rattle.listing.proofs.StartLaws.{Resumes}
 use Rattle.listing.proofs.HoldsLaws.{refusedOf-no}
 use Rattle.listing.proofs.TourLaws.{length-wordsOf}
 use Rattle.nalfipode.specs.Slices.{SliceOut}
-use Rattle.answers.specs.Answers.{Answers}
 use Rattle.answers.specs.Listings.{Page, turnOf, turnsOf, Follows, Ended, counts, outputs}
 use Rattle.answers.proofs.AnswersLaws.{answers-holds, refused-no}
 

@@ -12,10 +12,10 @@ use Rattle.bits.proofs.ListsLaws.{keep-append}
 use Rattle.prefix.specs.Keys.{stringOf}
 use Rattle.zones.specs.Maps.{Map, keys}
 use Rattle.zones.specs.Nodes.{nodes}
-use Rattle.zones.specs.Slices.{given, passes, wayTo, count, countedNodes}
+use Rattle.zones.specs.Slices.{given, passes, wayTo, count}
 use Rattle.zones.specs.Tree.{Tree, tip, node, entries}
 use Rattle.zones.specs.Searching.{strings}
-use Rattle.zones.proofs.CountLaws.{length-countedNodes}
+use Rattle.zones.proofs.CountLaws.{countedNodes, length-countedNodes}
 use Rattle.zones.proofs.TreeLaws.{nodes-entries}
 use Rattle.records.specs.Layout.{recordAt, headerAt, keyOf}
 use Rattle.records.specs.Holds.{Linked, Holds}

@@ -7,7 +7,7 @@ use native.Mathlib.Omega.{arith}
 use mathlib.Core.Path.{_≡_, refl, ap, _∙_}
 use mathlib.Core.Logic.{inl, inr}
 use mathlib.Core.Bool.{false, not}
-use mathlib.Core.List.{List, [], _∷_, List·Memᴰ, List·Memᴰ·head, List·Memᴰ·tail}
+use mathlib.Core.List.{List, [], _∷_, _++_, List·Memᴰ, List·Memᴰ·head, List·Memᴰ·tail}
 use mathlib.Core.Option.{Option, none, some}
 use borrow.Author.Tests.{leb-true}
 use lib.Dec.{T, leb}
@@ -19,8 +19,9 @@ use Rattle.bits.proofs.ListsLaws.{length-keep-or, length-keep-imp, length-keep-
 use Rattle.bits.proofs.BitsLaws.{lcp-left, before-prefix, isPrefix-between}
 use Rattle.zones.specs.Maps.{Map, keys, ascending}
 use Rattle.zones.specs.Nodes.{nodes}
-use Rattle.zones.specs.Slices.{after, given, remains, passes, passed, wayTo, found, count, countedNodes}
-use Rattle.zones.specs.Listings.{Turn, turns, nextAt, next, counted, pathed, ended}
+use Rattle.zones.specs.Slices.{after, given, remains, passes, passed, wayTo, found, count}
+use Rattle.zones.specs.Listings.{Turn, nextAt, next, pathed}
+use Rattle.zones.specs.WholeListings.{turns, counted, ended}
 use Rattle.zones.proofs.NodesLaws.{Node, mem-nodes}
 use Rattle.zones.proofs.PathLaws.{length-path, length-prefixNodes}
 use Rattle.zones.proofs.SlicesLaws.{after-trans, givenKeys, length-givenKeys, givenKeys-stored, givenKeys-after, given-or-rest}
@@ -88,6 +89,10 @@ counted-whole m bs h e =
     ∙ ap (λ (l : List Bits). length l + pathed none (turns m bs)) (keep-every (after none) (nodes (keys m)) (λ p i. tt))
 
 -- ---- count
+
+-- "the nodes it counts": those of the resume's path, and those passed (one that is both stands there twice)
+unfoldable pub countedNodes : Map → Option Bits → ℕ → List Bits
+countedNodes m r b = wayTo m r ++ keep (passes r (last (keys (given m r b)))) (nodes (keys m))
 
 -- the count is how many nodes a slice counts
 pub length-countedNodes : (m : Map) (r : Option Bits) (b : ℕ) → length (countedNodes m r b) ≡ count m r b

@@ -12,7 +12,7 @@ use Rattle.bits.specs.declared.Order.the-variants.{Before, Same, After}
 use Rattle.bits.proofs.ListsLaws.{or-swap, and-left, and-right, and-both, any-map, any-each, any-mem, mem-any, T-true, true-T}
 use Rattle.bits.proofs.BitsLaws.{equal-true, equal-refl, eq-equal, order-flip}
 use Rattle.bits.proofs.RisingLaws.{before-rising, rising-ext}
-use Rattle.zones.specs.Nodes.{join, joinAt, inOrder, isNode, nodes}
+use Rattle.zones.specs.Nodes.{join, joinAt, inOrder, nodes}
 
 -- ---- join
 
@@ -79,6 +79,10 @@ rising-inOrder (p ∷ ps) = rising-join p (inOrder ps) (rising-inOrder ps)
 pub rising-nodes : (s : List Bits) → T (rising (nodes s))
 unfolding nodes
 rising-nodes s = rising-inOrder (each (λ a. map (λ b. lcp a b) s) s)
+
+-- p is the longest common prefix of two members of s, as a test
+unfoldable pub isNode : List Bits → Bits → Bool
+isNode s p = any (λ a. any (λ b. equal p (lcp a b)) s) s
 
 -- a string is in the list of nodes exactly if it is a node
 pub member-nodes : (s : List Bits) (p : Bits) → member p (nodes s) ≡ isNode s p

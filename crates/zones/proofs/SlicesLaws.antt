@@ -19,7 +19,8 @@ use Rattle.bits.proofs.RisingLaws.{rising-keep, rising-append, rising-left, ris
 use Rattle.bits.proofs.RisingLaws.{not-after-lastOr, length-keep-equal}
 use Rattle.zones.specs.Maps.{Entry, Map, keys, ascending}
 use Rattle.zones.specs.Slices.{after, left, given, remains}
-use Rattle.zones.specs.Listings.{Turn, nextAt, next, listed, ended}
+use Rattle.zones.specs.Listings.{Turn, nextAt, next}
+use Rattle.zones.specs.WholeListings.{listed, ended}
 use Rattle.zones.proofs.MapsLaws.{keys-keep}
 
 -- ---- after

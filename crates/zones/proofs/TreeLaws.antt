@@ -14,10 +14,10 @@ use Rattle.bits.proofs.ListsLaws.{mem-any, any-mem, keep-append, test-ext}
 use Rattle.bits.proofs.BitsLaws.{isPrefix-refl, isPrefix-trans, isPrefix-append, lcp-self, lcp-comm, lcp-prefix, lcp-split, before-longer, before-split, equal-true, equal-refl}
 use Rattle.bits.proofs.RisingLaws.{rising-append, rising-ext}
 use Rattle.zones.specs.Maps.{Entry, Map, keys, ascending}
-use Rattle.zones.specs.Nodes.{nodes, isNode}
+use Rattle.zones.specs.Nodes.{nodes}
 use Rattle.zones.specs.Tree.{Tree, tip, node, full, Good, own, entries}
 use Rattle.zones.specs.Searching.{strings}
-use Rattle.zones.proofs.NodesLaws.{Node, node-isNode, isNode-true, rising-nodes, member-nodes}
+use Rattle.zones.proofs.NodesLaws.{isNode, Node, node-isNode, isNode-true, rising-nodes, member-nodes}
 
 -- ---- keys
 

@@ -2,6 +2,7 @@ pub mod Maps
 pub mod Nodes
 pub mod Slices
 pub mod Listings
+pub mod WholeListings
 pub mod Tree
 pub mod Searching
 pub mod TreeEdits

@@ -2,7 +2,6 @@
 -- Paper 01, "The tree of a set" and "The lent table".
 --   join p s          the set s with the string p
 --   nodes s           the nodes of s, in the order of strings
---   isNode s p        p is one of them: the longest common prefix of two members
 --   prefixNodes s k   the nodes that are prefixes of k, shortest first
 --   lastNode s k q    the path's last node that is no prefix of k, as a list of one or none
 --   path s k          the path of the key k
@@ -16,7 +15,7 @@ use mathlib.Core.Option.{Option, none, some}
 use lib.Dec.{leb, ltb, eqb}
 use lib.ListN.{length, take}
 use Rattle.bits.specs.Lists.{keep, any, each, last}
-use Rattle.bits.specs.Bits.{Bits, order, equal, isPrefix, lcp}
+use Rattle.bits.specs.Bits.{Bits, order, isPrefix, lcp}
 use Rattle.bits.specs.declared.Order.{Order}
 use Rattle.bits.specs.declared.Order.the-variants.{Before, Same, After}
 use Rattle.zones.specs.Maps.{Entry, Map, keys, put}
@@ -36,13 +35,10 @@ inOrder [] = []
 inOrder (p ∷ ps) = join p (inOrder ps)
 
 -- "the nodes are the strings in S together with the longest common prefix of every two members"
--- (a member is its own longest common prefix with itself)
+-- (a member is its own longest common prefix with itself); "Nothing else is a node." (the laws `mem-nodes` and
+-- `nodes-mem` say both)
 unfoldable pub nodes : List Bits → List Bits
 nodes s = inOrder (each (λ a. map (λ b. lcp a b) s) s)
-
--- "Nothing else is a node." (the law `member-nodes` says that the two agree)
-unfoldable pub isNode : List Bits → Bits → Bool
-isNode s p = any (λ a. any (λ b. equal p (lcp a b)) s) s
 
 -- (the shortest of some strings, as a list of one; of none, none)
 abbrev pub shorter : Bits → List Bits → List Bits

@@ -9,11 +9,10 @@
 --   wayTo m r         the resume prefix's path
 --   found m r         its length
 --   count m r b       the slice's count
---   countedNodes m r b   the nodes that it counts
 -- Assumes nothing.
 use Prim.Native.Nat.{ℕ, _+_}
 use mathlib.Core.Bool.{Bool, true, false, not, _&&_}
-use mathlib.Core.List.{List, [], _++_}
+use mathlib.Core.List.{List, []}
 use mathlib.Core.Option.{Option, none, some}
 use lib.ListN.{length, take, drop}
 use Rattle.bits.specs.Lists.{keep, last, isEmpty}
@@ -58,7 +57,3 @@ found m r = length (wayTo m r)
 
 unfoldable pub count : Map → Option Bits → ℕ → ℕ
 count m r b = passed m r (last (keys (given m r b))) + found m r
-
--- "the nodes it counts" (those of the resume's path, and those passed; one that is both stands there twice)
-unfoldable pub countedNodes : Map → Option Bits → ℕ → List Bits
-countedNodes m r b = wayTo m r ++ keep (passes r (last (keys (given m r b)))) (nodes (keys m))
