@@ -20,7 +20,8 @@ use Rattle.zones.specs.Maps.{Entry, Map, keys, ascending, longestMatch}
 use Rattle.zones.specs.Nodes.{join, joinAt, inOrder}
 use Rattle.zones.proofs.MatchLaws.{longestMatch-some}
 use Rattle.image.specs.Bytes.{uint32}
-use Rattle.image.specs.Image.{Size, size24, size28, size32, sizeBits, properPrefixes, imageNodes, numberIn, Side, toNode, noData, toZone, ascendingNumbers}
+use Rattle.image.specs.Image.{Size, size24, size28, size32, sizeBits, properPrefixes, imageNodes, numberIn, Side, toNode, noData, toZone}
+use Rattle.image.specs.Ascending.{ascendingNumbers}
 use Rattle.image.specs.Image.{leafOf, nodeOr, side, Fork, forksIn, forksOf, zonesOf, dataOf, recordOf, fitsIn, fits}
 use Rattle.image.proofs.LengthLaws.{length-uint32}
 use Rattle.image.proofs.ZonesLaws.{ascending-zonesOf, uses, mem-zonesOf, zonesOf-mem, offset-lt}

@@ -15,7 +15,8 @@ use borrow.Author.Tests.{ltb-false, eqb-false, eqb-true}
 use Rattle.bits.specs.Lists.{any, all}
 use Rattle.bits.proofs.ListsLaws.{and-left, and-right, and-both, all-imp, any-mem, mem-any, or-assoc, or-swap, T-true, true-T}
 use Rattle.image.specs.Bytes.{uint32}
-use Rattle.image.specs.Image.{Side, toNode, noData, toZone, Fork, add, addAt, addSide, zonesOf, ascendingNumbers, dataOf, offset}
+use Rattle.image.specs.Image.{Side, toNode, noData, toZone, Fork, add, addAt, addSide, zonesOf, dataOf, offset}
+use Rattle.image.specs.Ascending.{ascendingNumbers}
 
 abbrev pub uses : ℕ → Side → Bool
 uses z (toNode i) = false

@@ -7,7 +7,6 @@
 --   Side, Fork           what a side of a node holds; the two sides of a node
 --   forksOf m            the sides of all nodes of the image of m
 --   zonesOf fs           the zone numbers that some side uses, ascending, each once
---   ascendingNumbers zs  numbers that strictly ascend
 --   offset zs z          where the entry of z starts in the data section
 --   recordOf             a side as a number
 --   nodeBytes, treeBytes the search tree
@@ -104,11 +103,6 @@ addSide (toZone z) zs = add z zs
 abbrev pub zonesOf : List Fork → List ℕ
 zonesOf [] = []
 zonesOf (f ∷ fs) = addSide (f .left) (addSide (f .right) (zonesOf fs))
-
--- each number is below all that follow it, so that it is there once
-abbrev pub ascendingNumbers : List ℕ → Bool
-ascendingNumbers [] = true
-ascendingNumbers (z ∷ zs) = all (ltb z) zs && ascendingNumbers zs
 
 -- "as MaxMind uint32"
 unfoldable pub dataOf : List ℕ → List ℕ

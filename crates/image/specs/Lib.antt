@@ -1,4 +1,5 @@
 pub mod Bytes
 pub mod Image
+pub mod Ascending
 pub mod Tries
 pub mod Examples

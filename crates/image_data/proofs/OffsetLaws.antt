@@ -14,7 +14,8 @@ use borrow.Author.Tests.{eq-eqb, ne-eqb}
 use Rattle.bits.specs.Lists.{all, keep}
 use Rattle.bits.proofs.ListsLaws.{and-left, and-right, and-both, all-mem, all-keep, all-keep-same}
 use Rattle.image.specs.Bytes.{short, uint32}
-use Rattle.image.specs.Image.{dataOf, offset, ascendingNumbers}
+use Rattle.image.specs.Image.{dataOf, offset}
+use Rattle.image.specs.Ascending.{ascendingNumbers}
 use Rattle.metadata.specs.Frames.{numberAt}
 use Rattle.metadata.proofs.ValueLaws.{numberAt-append, valueOf-short}
 use Rattle.image_data.specs.Runs.{runOf, runsOf, startOf, DataAt, RunAt}

@@ -12,7 +12,8 @@ use lib.Dec.{T, eqb, eqb-refl}
 use lib.ListN.{length, getD}
 use Rattle.bits.proofs.ListsLaws.{mem-keep}
 use Rattle.image.specs.Bytes.{short}
-use Rattle.image.specs.Image.{offset, ascendingNumbers}
+use Rattle.image.specs.Image.{offset}
+use Rattle.image.specs.Ascending.{ascendingNumbers}
 use Rattle.metadata.specs.Frames.{numberAt}
 use Rattle.image_data.specs.Runs.{runOf, countOf, runsOf, lengthOf, startOf, shareOf, DataAt, RunAt, Placed, Offset}
 use Rattle.image_data.specs.declared.Runs.{Runs}

@@ -15,7 +15,8 @@ use borrow.Author.Tests.{ltb-true, ltb-false, eqb-true, eqb-false, lt-ltb, le-lt
 use Rattle.bits.specs.Lists.{all, keep}
 use Rattle.bits.proofs.ListsLaws.{and-left, and-right, all-mem, keep-none, keep-every, keep-append}
 use Rattle.image.specs.Bytes.{short, uint32}
-use Rattle.image.specs.Image.{dataOf, ascendingNumbers}
+use Rattle.image.specs.Image.{dataOf}
+use Rattle.image.specs.Ascending.{ascendingNumbers}
 use Rattle.image.proofs.LengthLaws.{length-short-below}
 use Rattle.image.proofs.BytesLaws.{length-short-mono}
 use Rattle.image_data.specs.Runs.{runOf, countOf, runsOf, lengthOf, startOf, oneMore}

@@ -19,7 +19,8 @@ use lib.Dec.{T, ltb, eqb}
 use lib.ListN.{length, take, drop, getD}
 use Rattle.bits.specs.Lists.{all, keep}
 use Rattle.image.specs.Bytes.{short}
-use Rattle.image.specs.Image.{dataOf, offset, ascendingNumbers}
+use Rattle.image.specs.Image.{dataOf, offset}
+use Rattle.image.specs.Ascending.{ascendingNumbers}
 use Rattle.metadata.specs.Frames.{numberAt}
 use Rattle.image_data.specs.declared.Runs.{Runs}
 

@@ -15,7 +15,8 @@ use borrow.Author.Tests.{le-leb, lt-leb, eq-eqb, ne-eqb, eqb-true, eqb-false}
 use Rattle.bits.specs.Lists.{all}
 use Rattle.bits.proofs.ListsLaws.{T-true, and-left, and-right, and-both, all-imp, all-mem}
 use Rattle.image.specs.Bytes.{uint32}
-use Rattle.image.specs.Image.{dataOf, offset, ascendingNumbers}
+use Rattle.image.specs.Image.{dataOf, offset}
+use Rattle.image.specs.Ascending.{ascendingNumbers}
 use Rattle.image.proofs.ZonesLaws.{one-byte}
 use Rattle.image_verify.specs.Verifying.{readOn, entriesFrom, entriesOn, startsAt}
 use Rattle.image_verify.specs.declared.Read.{Read}
