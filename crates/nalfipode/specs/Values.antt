@@ -1,4 +1,5 @@
 -- An answer's values, as the list that its definition `valuesOf` gives.
+-- Internal: how the library's own helpers list an answer's values; no contract of an export cites it.
 --   oneOf .. fiveOf   the values of an answer that has so many
 --   longOf            the value of an answer that has one, a length
 --   factsOf           the values of what an image says of itself
