@@ -1,5 +1,6 @@
 -- The binary trie that an image spells out fork by fork, and the one that a table's tree grows into. The
 -- forks are the image nodes; a leaf holds what a record there says: a zone number, or no data.
+-- Internal: what the writer, the checker and the lookup are proved by; no public contract cites it.
 -- Paper 01, "The image".
 --   Trie, leaf, fork    a trie of two-way forks
 --   size t              the number of forks

@@ -1,4 +1,5 @@
 -- The upper part of a path walk, which carries less: what it stands for.
+-- Internal: what the descent of a walk is held to; no public contract cites it.
 -- Paper 01, "The tree of a set": "all nodes that are prefixes of k, shortest first".
 --   Whole at          a record may start at the word `at`
 --   Held ws at        a record of ws starts at the word `at`, or `at` is 0
