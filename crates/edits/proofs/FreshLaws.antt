@@ -46,7 +46,7 @@ module _ (ws : List ℕ) (b : Bool) (e : b ≡ isTable (length ws)) where
   pub fresh-length : not b ≡ true → Fresh ws BadLength ws
   fresh-length t =
       let f : isTable (length ws) ≡ false = sym e ∙ not-true b t in
-      record { answer = simp f; number = simp f; words = simp f; meaning = λ h. absurd (bad (sym f ∙ h)) }
+      record { answer = simp f; number = simp f; values = refl; words = simp f; meaning = λ h. absurd (bad (sym f ∙ h)) }
     where
       bad : false ≡ true → ⊥
       bad h = let z : _≡_ {A = ℕ} 0 1 = cc in omega arith
@@ -57,4 +57,4 @@ module _ (ws : List ℕ) (b : Bool) (e : b ≡ isTable (length ws)) where
   fresh-done y t u v n p q r s =
       let f : isTable (length ws) ≡ true = sym e ∙ not-false b n in
       let w : v ≡ freshOn ws = simp (s, r, q, p) in
-      record { answer = simp f; number = simp f; words = simp f w; meaning = λ h. subst (λ (x : List ℕ). Holds x []) (sym w) (freshOn-holds ws h) }
+      record { answer = simp f; number = simp f; values = refl; words = simp f w; meaning = λ h. subst (λ (x : List ℕ). Holds x []) (sym w) (freshOn-holds ws h) }

@@ -46,6 +46,7 @@ pub record Fresh (ws : List ℕ) (r : Freshened) (after : List ℕ) : Type 0 whe
   pub answer : r ≡ cond (isTable (length ws)) Done BadLength
   -- No. 1, BadLength: "the table memory has another length than those above"
   pub number : numberOf r ≡ cond (isTable (length ws)) 0 1
+  pub values : valuesOf r ≡ []
   pub words : after ≡ cond (isTable (length ws)) (freshOn ws) ws
   -- "gives the empty set"
   pub meaning : isTable (length ws) ≡ true → Holds after []

@@ -148,6 +148,7 @@ pub record VerifyImage (bs : List ℕ) (r : Verified) : Type 0 where
   pub answer : r ≡ cond (verifyOn bs) Yes BadImage
   -- No. 9, BadImage: "checker says no"
   pub number : numberOf r ≡ cond (verifyOn bs) 0 9
+  pub values : valuesOf r ≡ []
   -- "yes exactly if the bytes are the image of some list of prefixes and some epoch"
   pub yes : numberOf r ≡ 0 → (m : Map) × ((epoch : ℕ) × IsImage size24 bs m epoch)
   pub exact : (m : Map) (epoch : ℕ) → IsImage size24 bs m epoch → numberOf r ≡ 0

@@ -21,6 +21,6 @@ pathLinksOf t Start = []
 pathLinksOf t (After k) = pathLinks t (stringOf k)
 
 -- the resume's path, and the nodes passed (the law `sliceLinks-strings` says that their strings are
--- `countedNodes` of zones/specs/Slices.antt)
+-- `countedNodes` of zones/proofs/CountLaws.antt)
 unfoldable pub sliceLinks : Tree ℕ → Resume → ℕ → List ℕ
 sliceLinks t r b = pathLinksOf t r ++ linksWhere (passes (resumeOf r) (last (keys (given (entries t) (resumeOf r) b)))) t
