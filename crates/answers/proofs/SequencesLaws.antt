@@ -14,12 +14,7 @@ use Rattle.lookup.specs.Fetching as fetching
 use Rattle.lookup.specs.Matching as matching
 use Rattle.plans.specs.Planning.{entryOf}
 use Rattle.edits.specs.Storing as storing
-use Rattle.edits.specs.Storing.{Edit}
 use Rattle.edits.specs.Removing as removing
-use Rattle.edits.proofs.ThreeLaws.{storeOn-three, removeOn-three}
-use Rattle.edits.specs.declared.Stored.{Stored}
-use Rattle.edits.specs.declared.Removal.{Removal}
-use Rattle.nalfipode.specs.Changes.{StoreOut, RemoveOut}
 use Rattle.answers.specs.Made.{Tells}
 use Rattle.answers.specs.Answers.{nodesFor}
 use Rattle.answers.specs.Sequences.{Call, Told, Ran, done, fetched, matched, stored, removed, told, mapTells}
@@ -30,16 +25,6 @@ use Rattle.answers.proofs.AnswersLaws.{answers-holds}
 told-tells : {A : Type 0} (numberOf : A → ℕ) (valuesOf : A → List ℕ) (a : A) {r : ℕ} {values : List ℕ} → Tells numberOf valuesOf a r values
     → record { number = r; values = values } ≡ told numberOf valuesOf a
 told-tells numberOf valuesOf a t = λ i. record { number = t .0 i; values = t .1 i }
-
--- ---- the length of a table's words
-
-length-stored : {ws bs us after values : List ℕ} {k : Prefix} {z r : ℕ} → StoreOut ws k z bs r us after values → length us ≡ length ws
-length-stored {ws} {bs} {us} {k = k} {z} o =
-    sym (ap (λ (e : Edit Stored). length (e .words)) (o .promise .answer)) ∙ storeOn-three ws k z bs .same-length
-
-length-removed : {ws bs us after values : List ℕ} {k : Prefix} {r : ℕ} → RemoveOut ws k bs r us after values → length us ≡ length ws
-length-removed {ws} {bs} {us} {k = k} o =
-    sym (ap (λ (e : Edit Removal). length (e .words)) (o .promise .answer)) ∙ removeOn-three ws k bs .same-length
 
 -- ---- mapTells
 
@@ -58,8 +43,8 @@ ran-mapTells {m = m} h (matched {k = k} o v rest) =
 ran-mapTells {ws} {m} h (stored {k = k} {z} o v rest) =
     let a = storing.gives (overflows (capacity (length ws)) (entryOf k z) m) (nodesFor m k) (get (stringOf k) m) in
     told-next (told-tells storing.numberOf storing.valuesOf a (answers-holds h .store o v .0))
-    (rw (length-stored o) at (ran-mapTells (o .promise .holds m h (v .0) (v .1)) rest))
+    (rw (o .promise .three .same-length) at (ran-mapTells (o .promise .holds m h (v .0) (v .1)) rest))
 ran-mapTells {m = m} h (removed {k = k} o v rest) =
     let a = removing.gives (nodesFor m k) (get (stringOf k) m) in
     told-next (told-tells removing.numberOf removing.valuesOf a (answers-holds h .remove o v .0))
-    (rw (length-removed o) at (ran-mapTells (o .promise .holds m h (v .0) (v .1)) rest))
+    (rw (o .promise .three .same-length) at (ran-mapTells (o .promise .holds m h (v .0) (v .1)) rest))

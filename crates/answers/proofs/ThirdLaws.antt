@@ -2,7 +2,7 @@
 -- Assumes nothing.
 use Prim.Native.Nat.{ℕ, suc, _+_, _≤_}
 use native.Mathlib.Omega.{arith}
-use mathlib.Core.Path.{_≡_, refl, sym, ap, subst, _∙_}
+use mathlib.Core.Path.{_≡_, refl, sym, ap, _∙_}
 use mathlib.Core.Bool.{Bool, true, false}
 use mathlib.Core.List.{List, [], _∷_}
 use mathlib.Core.Option.{Option, none, some}
@@ -23,14 +23,10 @@ use Rattle.lookup.specs.declared.Fetched.{Fetched}
 use Rattle.lookup.specs.declared.Matched.{Matched}
 use Rattle.lookup.proofs.RestsLaws.{fetchOn-rests, longestOn-rests}
 use Rattle.plans.specs.Planning.{entryOf}
-use Rattle.plans.specs.Limits.{ThreeRecords}
 use Rattle.edits.specs.Storing as storing
 use Rattle.edits.specs.Storing.{Edit}
 use Rattle.edits.specs.Removing as removing
 use Rattle.edits.specs.Resting.{SameEdit, editLinks}
-use Rattle.edits.specs.declared.Stored.{Stored}
-use Rattle.edits.specs.declared.Removal.{Removal}
-use Rattle.edits.proofs.ThreeLaws.{storeOn-three, removeOn-three}
 use Rattle.edits.proofs.EditRestsLaws.{storeOn-rests, removeOn-rests}
 use Rattle.listing.specs.Slicing as slicing
 use Rattle.listing.specs.Slicing.{Sliding}
@@ -41,6 +37,7 @@ use Rattle.listing.proofs.SliceRestsLaws.{sliceOn-rests}
 use Rattle.nalfipode.specs.Changes.{StoreOut, RemoveOut}
 use Rattle.nalfipode.specs.Reads.{FetchOut, LongestMatchOut}
 use Rattle.nalfipode.specs.Slices.{SliceOut}
+use Rattle.nalfipode.proofs.SinglesLaws.{alike}
 use Rattle.answers.specs.Made.{Made, Ready}
 use Rattle.answers.specs.Answers.{nodesFor, trailFor}
 use Rattle.answers.specs.Third.{Reports, Changes, WorkIsBounded}
@@ -80,24 +77,12 @@ reports {m} {k} v e n t =
 -- ---- Changes
 
 store-changes : {ws bs us after values : List ℕ} {k : Prefix} {z r : ℕ} → StoreOut ws k z bs r us after values → Changes ws us r
-store-changes {ws} {bs} {k = k} {z} o =
-    record {
-      three = subst (λ (e : Edit Stored). ThreeRecords ws (e .words)) (o .promise .answer) (storeOn-three ws k z bs);
-      refused = λ n e. o .promise .left n (sym (o .number) ∙ e);
-    }
+store-changes o = record { three = o .promise .three; refused = λ n e. o .promise .left n (sym (o .number) ∙ e) }
 
 remove-changes : {ws bs us after values : List ℕ} {k : Prefix} {r : ℕ} → RemoveOut ws k bs r us after values → Changes ws us r
-remove-changes {ws} {bs} {k = k} o =
-    record {
-      three = subst (λ (e : Edit Removal). ThreeRecords ws (e .words)) (o .promise .answer) (removeOn-three ws k bs);
-      refused = λ n e. o .promise .left n (sym (o .number) ∙ e);
-    }
+remove-changes o = record { three = o .promise .three; refused = λ n e. o .promise .left n (sym (o .number) ∙ e) }
 
 -- ---- what a call rests on
-
--- two numbers or lists of values that equal answers have
-alike : {A B : Type 0} (f : A → B) {x y : A} {a b : B} → a ≡ f x → b ≡ f y → x ≡ y → a ≡ b
-alike f p q e = p ∙ ap f e ∙ sym q
 
 -- the same edit, by the answer's number
 sameEdit-number : {A : Type 0} (f : A → ℕ) {us ws : List ℕ} {x y : Edit A} {q r : ℕ} → q ≡ f (x .answer) → r ≡ f (y .answer) → SameEdit us ws x y

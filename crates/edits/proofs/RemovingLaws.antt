@@ -20,6 +20,7 @@ use Rattle.lookup.proofs.SurveyLaws.{refusalOf, surveyOn-given}
 use Rattle.plans.specs.Planning.{planRemoveOn}
 use Rattle.plans.specs.Planned.{Planned}
 use Rattle.plans.specs.Planned as planned
+use Rattle.plans.specs.Limits.{ThreeRecords}
 use Rattle.plans.specs.Making.{madeOf, leftBy, Makes}
 use Rattle.plans.specs.declared.Made.{Made}
 use Rattle.plans.specs.declared.Made.the-variants as made
@@ -27,6 +28,7 @@ use Rattle.edits.specs.Storing.{Edit, refused}
 use Rattle.edits.specs.Removing.{removedBy, removedOf, removeOn, numberOf, valuesOf, Remove}
 use Rattle.edits.specs.declared.Removal.{Removal}
 use Rattle.edits.specs.declared.Removal.the-variants.{Removed, Damaged, Absent}
+use Rattle.edits.proofs.ThreeLaws.{removeOn-three, removeOn-refused}
 use Rattle.edits.proofs.RemoveHoldsLaws.{removeOn-holds}
 use Rattle.edits.proofs.StoringLaws.{holds-words}
 
@@ -76,19 +78,11 @@ module _ (ws : List ℕ) (k : Prefix) (bs us : List ℕ) (x : Surveyed)
 abbrev Exact : ℕ → Edit Removal → Type 0
 Exact first o = GivenExactly first (0 ∷ 6 ∷ 7 ∷ []) (numberOf (o .answer))
 
--- a refusal leaves the words, and one that leaves all has zero counts and leaves the bytes
-abbrev Left : List ℕ → Edit Removal → Type 0
-Left ws o = (n : ℕ) → numberOf (o .answer) ≡ suc n → o .words ≡ ws
-
+-- a refusal that leaves all has zero counts and leaves the bytes
 abbrev Kept : List ℕ → Edit Removal → Type 0
 Kept bs o = leavesAll (numberOf (o .answer)) ≡ true → (valuesOf (o .answer) ≡ 0 ∷ 0 ∷ []) × (o .bytes ≡ bs)
 
 module _ (ws bs ts : List ℕ) (n : ℕ) (s : Walk) where
-  removedBy-left : (y : Planned) → Left ws (removedBy ws bs ts n s y)
-  removedBy-left (planned.Go p) m h = cc
-  removedBy-left planned.Damaged m h = refl
-  removedBy-left planned.Full m h = refl
-
   removedBy-kept : (y : Planned) → Kept bs (removedBy ws bs ts n s y)
   unfolding leavesAll
   removedBy-kept (planned.Go p) h = (cc, cc)
@@ -96,11 +90,6 @@ module _ (ws bs ts : List ℕ) (n : ℕ) (s : Walk) where
   removedBy-kept planned.Full h = (refl, refl)
 
   -- where the key is stored or not
-  removedAt-left : (b : Bool) (y : Planned)
-      → Left ws (cond b (removedBy ws bs ts n s y) (record { answer = Absent n; bytes = paste bs 0 ts n; words = ws }))
-  removedAt-left true y m h = removedBy-left y m h
-  removedAt-left false y m h = refl
-
   removedAt-given : (b : Bool) (y : Planned)
       → OneOf (0 ∷ 6 ∷ 7 ∷ []) (numberOf (cond b (removedBy ws bs ts n s y) (record { answer = Absent n; bytes = paste bs 0 ts n; words = ws }) .answer))
   removedAt-given true (planned.Go p) = tt
@@ -122,13 +111,6 @@ module _ (ws : List ℕ) (k : Prefix) (bs ts : List ℕ) where
   removedOf-number surveyed.ShortOut m h = h
   removedOf-number surveyed.Damaged m h = h
 
-  removedOf-left : (x : Surveyed) → Left ws (removedOf ws k bs ts x)
-  removedOf-left (surveyed.Path n s e) m h = removedAt-left ws bs ts n s (eqb (s .best) (k .width + 1)) (planRemoveOn ws k s) m h
-  removedOf-left surveyed.BadLength m h = refl
-  removedOf-left surveyed.BadPrefix m h = refl
-  removedOf-left surveyed.ShortOut m h = refl
-  removedOf-left surveyed.Damaged m h = refl
-
   removedOf-kept : (x : Surveyed) → Kept bs (removedOf ws k bs ts x)
   removedOf-kept (surveyed.Path n s e) h = removedAt-kept ws bs ts n s (eqb (s .best) (k .width + 1)) (planRemoveOn ws k s) h
   removedOf-kept surveyed.BadLength h = (refl, refl)
@@ -144,10 +126,6 @@ module _ (ws : List ℕ) (k : Prefix) (bs : List ℕ) where
       surveyOn-given ws k (length bs) (replicate 129 0) (λ x. numberOf (removedOf ws k bs ts x .answer)) _ (removedOf-number ws k bs ts)
       (λ n s e. removedAt-given ws bs ts n s (eqb (s .best) (k .width + 1)) (planRemoveOn ws k s)) tt
 
-  removeOn-left : Left ws (removeOn ws k bs)
-  unfolding removeOn
-  removeOn-left = let v = surveyOn ws k (length bs) (replicate 129 0) in removedOf-left ws k bs (v .widths) (v .out)
-
   removeOn-kept : Kept bs (removeOn ws k bs)
   unfolding removeOn
   removeOn-kept = let v = surveyOn ws k (length bs) (replicate 129 0) in removedOf-kept ws k bs (v .widths) (v .out)
@@ -160,7 +138,8 @@ remove-promise ws k bs r us after e =
     record {
       answer = e;
       refusal = subst (Exact (firstRefusal ws k (length bs))) e (removeOn-exact ws k bs);
-      left = subst (Left ws) e (removeOn-left ws k bs);
+      left = λ n h. ap (λ (o : Edit Removal). o .words) (sym e) ∙ removeOn-refused ws k bs n (ap (λ (o : Edit Removal). numberOf (o .answer)) e ∙ h);
+      three = subst (λ (o : Edit Removal). ThreeRecords ws (o .words)) e (removeOn-three ws k bs);
       kept = subst (Kept bs) e (removeOn-kept ws k bs);
       meaning = λ m h v g. ap (λ (o : Edit Removal). o .answer) (sym e) ∙ removeOn-holds ws k bs m h v g .answer;
       written = λ m h v g. ap (λ (o : Edit Removal). o .bytes) (sym e) ∙ removeOn-holds ws k bs m h v g .bytes;

@@ -24,12 +24,14 @@ use Rattle.lookup.proofs.SurveyLaws.{surveyOn-cases, refusalOf, surveyOn-given}
 use Rattle.plans.specs.Planning.{planStoreOn}
 use Rattle.plans.specs.Planned.{Planned}
 use Rattle.plans.specs.Planned as planned
+use Rattle.plans.specs.Limits.{ThreeRecords}
 use Rattle.plans.specs.Making.{madeOf, leftBy, Makes}
 use Rattle.plans.specs.declared.Made.{Made}
 use Rattle.plans.specs.declared.Made.the-variants as made
 use Rattle.edits.specs.Storing.{Edit, refused, acceptedOf, storedBy, storedOf, storeOn, numberOf, valuesOf, Store}
 use Rattle.edits.specs.declared.Stored.{Stored}
 use Rattle.edits.specs.declared.Stored.the-variants.{Added, Replaced, Damaged, Full}
+use Rattle.edits.proofs.ThreeLaws.{numberOf-acceptedOf, storeOn-three, storeOn-refused}
 use Rattle.edits.proofs.StoreHoldsLaws.{storeOn-holds}
 
 -- ---- surveyOn: words with a path are long enough for a header and a record
@@ -66,14 +68,6 @@ module _ (k : Prefix) (n : ℕ) (s : Walk) where
   pub acceptedOf-added : (s .best ≡ k .width + 1 → ⊥) → Added n ≡ acceptedOf k n s
   unfolding acceptedOf
   acceptedOf-added h = simp (ne-eqb _ _ h)
-
-  numberOf-acceptedOf : numberOf (acceptedOf k n s) ≡ 0
-  unfolding acceptedOf
-  numberOf-acceptedOf = at (eqb (s .best) (k .width + 1))
-    where
-      at : (b : Bool) → numberOf (cond b (Replaced n (s .zone)) (Added n)) ≡ 0
-      at true = refl
-      at false = refl
 
 -- ---- storeOn, where the survey gives x, and y is made and leaves the words `now`
 
@@ -116,19 +110,11 @@ module _ (ws : List ℕ) (k : Prefix) (z : ℕ) (bs us : List ℕ) (x : Surveyed
 abbrev Exact : ℕ → Edit Stored → Type 0
 Exact first o = GivenExactly first (0 ∷ 6 ∷ 8 ∷ []) (numberOf (o .answer))
 
--- a refusal leaves the words, and one that leaves all has zero counts and leaves the bytes
-abbrev Left : List ℕ → Edit Stored → Type 0
-Left ws o = (n : ℕ) → numberOf (o .answer) ≡ suc n → o .words ≡ ws
-
+-- a refusal that leaves all has zero counts and leaves the bytes
 abbrev Kept : List ℕ → Edit Stored → Type 0
 Kept bs o = leavesAll (numberOf (o .answer)) ≡ true → (valuesOf (o .answer) ≡ 0 ∷ 0 ∷ 0 ∷ []) × (o .bytes ≡ bs)
 
 module _ (ws : List ℕ) (k : Prefix) (bs ts : List ℕ) (n : ℕ) (s : Walk) where
-  storedBy-left : (y : Planned) → Left ws (storedBy ws k bs ts n s y)
-  storedBy-left (planned.Go p) m h = let f : 0 ≡ suc m = sym (numberOf-acceptedOf k n s) ∙ h in cc
-  storedBy-left planned.Damaged m h = refl
-  storedBy-left planned.Full m h = refl
-
   storedBy-given : (y : Planned) → OneOf (0 ∷ 6 ∷ 8 ∷ []) (numberOf (storedBy ws k bs ts n s y .answer))
   storedBy-given (planned.Go p) = rw (numberOf-acceptedOf k n s) tt
   storedBy-given planned.Damaged = tt
@@ -148,13 +134,6 @@ module _ (ws : List ℕ) (k : Prefix) (z : ℕ) (bs ts : List ℕ) where
   storedOf-number surveyed.ShortOut m h = h
   storedOf-number surveyed.Damaged m h = h
 
-  storedOf-left : (x : Surveyed) → Left ws (storedOf ws k z bs ts x)
-  storedOf-left (surveyed.Path n s e) m h = storedBy-left ws k bs ts n s (planStoreOn ws k z s e) m h
-  storedOf-left surveyed.BadLength m h = refl
-  storedOf-left surveyed.BadPrefix m h = refl
-  storedOf-left surveyed.ShortOut m h = refl
-  storedOf-left surveyed.Damaged m h = refl
-
   storedOf-kept : (x : Surveyed) → Kept bs (storedOf ws k z bs ts x)
   storedOf-kept (surveyed.Path n s e) h = storedBy-kept ws k bs ts n s (planStoreOn ws k z s e) h
   storedOf-kept surveyed.BadLength h = (refl, refl)
@@ -169,10 +148,6 @@ module _ (ws : List ℕ) (k : Prefix) (z : ℕ) (bs : List ℕ) where
       let ts = surveyOn ws k (length bs) (replicate 129 0) .widths in
       surveyOn-given ws k (length bs) (replicate 129 0) (λ x. numberOf (storedOf ws k z bs ts x .answer)) _ (storedOf-number ws k z bs ts)
       (λ n s e. storedBy-given ws k bs ts n s (planStoreOn ws k z s e)) tt
-
-  storeOn-left : Left ws (storeOn ws k z bs)
-  unfolding storeOn
-  storeOn-left = let v = surveyOn ws k (length bs) (replicate 129 0) in storedOf-left ws k z bs (v .widths) (v .out)
 
   storeOn-kept : Kept bs (storeOn ws k z bs)
   unfolding storeOn
@@ -189,7 +164,8 @@ store-promise ws k z bs r us after e =
     record {
       answer = e;
       refusal = subst (Exact (firstRefusal ws k (length bs))) e (storeOn-exact ws k z bs);
-      left = subst (Left ws) e (storeOn-left ws k z bs);
+      left = λ n h. ap (λ (o : Edit Stored). o .words) (sym e) ∙ storeOn-refused ws k z bs n (ap (λ (o : Edit Stored). numberOf (o .answer)) e ∙ h);
+      three = subst (λ (o : Edit Stored). ThreeRecords ws (o .words)) e (storeOn-three ws k z bs);
       kept = subst (Kept bs) e (storeOn-kept ws k z bs);
       meaning = λ m h v g. ap (λ (o : Edit Stored). o .answer) (sym e) ∙ storeOn-holds ws k z bs m h v g .answer;
       written = λ m h v g. ap (λ (o : Edit Stored). o .bytes) (sym e) ∙ storeOn-holds ws k z bs m h v g .bytes;

@@ -38,7 +38,7 @@ left-sparing number ws bs r = record { three = three-refl ws; refused = λ n h. 
 
 -- ---- storeOn
 
-numberOf-acceptedOf : (k : Prefix) (n : ℕ) (s : Walk) → storing.numberOf (acceptedOf k n s) ≡ 0
+pub numberOf-acceptedOf : (k : Prefix) (n : ℕ) (s : Walk) → storing.numberOf (acceptedOf k n s) ≡ 0
 unfolding acceptedOf
 numberOf-acceptedOf k n s = at (eqb (s .best) (k .width + 1))
   where

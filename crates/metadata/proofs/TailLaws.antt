@@ -44,7 +44,7 @@ length-tailOf n epoch = simp (length-append, length-metadata) (omega arith)
 
 -- ---- stepsBack
 
-all-getD : (f : ℕ → Bool) (xs : List ℕ) (i : ℕ) → T (all f xs) → i < length xs → T (f (getD xs i 0))
+pub all-getD : (f : ℕ → Bool) (xs : List ℕ) (i : ℕ) → T (all f xs) → i < length xs → T (f (getD xs i 0))
 all-getD f [] i h l = absurd (omega arith)
 all-getD f (x ∷ xs) zero h l = and-left (f x) (all f xs) h
 all-getD f (x ∷ xs) (suc i) h l = all-getD f xs i (and-right (f x) (all f xs) h) (omega arith)

@@ -35,7 +35,7 @@ use Rattle.nalfipode.specs.Images.{WriteOut, VerifyOut, DescribeOut, Loo
 use Rattle.image_write.proofs.SingleLaws.{write-single}
 
 -- a number or a list of values that two answers give, where these are equal
-alike : {A B : Type 0} (f : A → B) {x y : A} {a b : B} → a ≡ f x → b ≡ f y → x ≡ y → a ≡ b
+pub alike : {A B : Type 0} (f : A → B) {x y : A} {a b : B} → a ≡ f x → b ≡ f y → x ≡ y → a ≡ b
 alike f p q e = p ∙ ap f e ∙ sym q
 
 pub cellOut-single : {longitude latitude : ℤ} {r q : ℕ} {xs ys : List ℕ} → CellOut longitude latitude r xs → CellOut longitude latitude q ys
