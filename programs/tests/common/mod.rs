@@ -1,6 +1,8 @@
 //! Runs a program and gives everything that it printed.
 #![allow(dead_code)] // each test file uses a part
 
+pub mod list;
+
 use std::ffi::OsStr;
 use std::fs;
 use std::io::Write;
