@@ -2,6 +2,9 @@
 // and their like with one byte changed to each other value, cut short, and one byte longer. For each
 // byte of which some other value is accepted, a line says how many are; `stdout` beside this folder
 // holds what a separate model of paper 01 gives.
+
+#![tactic(auto)]
+
 use image_lookup::Looked;
 use image_verify::Verified;
 use image_write::Written;

@@ -1,6 +1,9 @@
 // An ageing run: 100,000 edits with a fixed seed on a small table that is nearly full, and then each
 // key's path compared with that in a table built afresh from the same set. Age adds nothing to a
 // path, so the two numbers on the last line are equal.
+
+#![tactic(auto)]
+
 use edits::{Removal, Stored};
 use libc::STDOUT_FILENO;
 use lookup::{Fetched, Matched};
@@ -15,7 +18,7 @@ const WIDEST: u32 = 7;
 const EDITS: u32 = 100_000;
 
 // What the edits answered.
-#[derive(Drop)]
+#[derive(Clone, Copy)]
 struct Tally {
     added: u32,
     replaced: u32,

@@ -1,6 +1,9 @@
 // The whole-table check: are these words a table of some map? It goes through the tree by recursion
 // on the width, at most 129 deep, and then along the spare chain, and needs no memory of its own.
 // Each record is counted once, and a count that runs out ends the check, on damaged memory too.
+
+#![tactic(auto)]
+
 ghost use Rattle.std.specs.Prelude.{ℕ, ◌+◌, ◌≤◌, ◌≡◌, length};
 ghost use Rattle.prefix.specs.Keys.{Valid};
 ghost use Rattle.audit.specs.Checking.{stands as stands_of, is_node, below_on, chain_on, Check};
@@ -10,7 +13,7 @@ use prefix::Prefix;
 use records::Record;
 
 // The answer: the words are a table, or they are not.
-#[derive(Drop)]
+#[derive(Clone, Copy)]
 pub enum Audited {
     Yes,
     No,
@@ -18,14 +21,14 @@ pub enum Audited {
 }
 
 // Where a node stands: at the top, or under a node on the side of a bit.
-#[derive(Drop)]
+#[derive(Clone, Copy)]
 pub enum Place {
     Top,
     Under(Prefix, bool),
 }
 
 // What counting comes to: how many records are left, or words that no table has.
-#[derive(Drop)]
+#[derive(Clone, Copy)]
 pub enum Counted {
     Left(u32),
     Bad,

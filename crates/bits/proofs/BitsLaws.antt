@@ -23,11 +23,23 @@ pub is_prefix_trans : (p q r : Bits) → T (is_prefix p q) → T (is_prefix q r)
 is_prefix_trans [] q r h k = tt
 is_prefix_trans (false ∷ p) (false ∷ q) (false ∷ r) h k = is_prefix_trans p q r h k
 is_prefix_trans (true ∷ p) (true ∷ q) (true ∷ r) h k = is_prefix_trans p q r h k
+is_prefix_trans (false ∷ p) [] r h k = elim h [ ]
+is_prefix_trans (false ∷ p) (false ∷ q) [] h k = elim k [ ]
+is_prefix_trans (false ∷ p) (false ∷ q) (true ∷ r) h k = elim k [ ]
+is_prefix_trans (false ∷ p) (true ∷ q) r h k = elim h [ ]
+is_prefix_trans (true ∷ p) [] r h k = elim h [ ]
+is_prefix_trans (true ∷ p) (false ∷ q) r h k = elim h [ ]
+is_prefix_trans (true ∷ p) (true ∷ q) [] h k = elim k [ ]
+is_prefix_trans (true ∷ p) (true ∷ q) (false ∷ r) h k = elim k [ ]
 
 pub is_prefix_length : (p k : Bits) → T (is_prefix p k) → length p ≤ length k
 is_prefix_length [] k h = zero-le
 is_prefix_length (false ∷ p) (false ∷ k) h = suc-le-suc (is_prefix_length p k h)
 is_prefix_length (true ∷ p) (true ∷ k) h = suc-le-suc (is_prefix_length p k h)
+is_prefix_length (false ∷ p) [] h = elim h [ ]
+is_prefix_length (false ∷ p) (true ∷ k) h = elim h [ ]
+is_prefix_length (true ∷ p) [] h = elim h [ ]
+is_prefix_length (true ∷ p) (false ∷ k) h = elim h [ ]
 
 pub is_prefix-append : (s x : Bits) → T (is_prefix s (s ++ x))
 is_prefix-append [] x = tt
@@ -40,6 +52,10 @@ is_prefix-take (false ∷ p) (false ∷ k) (suc n) h i = is_prefix-take p k n h 
 is_prefix-take (true ∷ p) (true ∷ k) (suc n) h i = is_prefix-take p k n h (omega arith)
 is_prefix-take (false ∷ p) (false ∷ k) zero h i = absurd (omega arith)
 is_prefix-take (true ∷ p) (true ∷ k) zero h i = absurd (omega arith)
+is_prefix-take (false ∷ p) [] n h i = elim h [ ]
+is_prefix-take (false ∷ p) (true ∷ k) n h i = elim h [ ]
+is_prefix-take (true ∷ p) [] n h i = elim h [ ]
+is_prefix-take (true ∷ p) (false ∷ k) n h i = elim h [ ]
 
 pub is_prefix-taken : (p k : Bits) (n : ℕ) → T (is_prefix p (take n k)) → T (is_prefix p k)
 is_prefix-taken [] k n h = tt
@@ -47,12 +63,20 @@ is_prefix-taken (false ∷ p) (false ∷ k) (suc n) h = is_prefix-taken p k n h
 is_prefix-taken (true ∷ p) (true ∷ k) (suc n) h = is_prefix-taken p k n h
 is_prefix-taken (false ∷ p) k zero h = absurd h
 is_prefix-taken (true ∷ p) k zero h = absurd h
+is_prefix-taken (false ∷ p) [] (suc n) h = elim h [ ]
+is_prefix-taken (false ∷ p) (true ∷ k) (suc n) h = elim h [ ]
+is_prefix-taken (true ∷ p) [] (suc n) h = elim h [ ]
+is_prefix-taken (true ∷ p) (false ∷ k) (suc n) h = elim h [ ]
 
 -- a prefix of k is what k's first bits are
 pub take-is_prefix : (p k : Bits) → T (is_prefix p k) → take (length p) k ≡ p
 take-is_prefix [] k h = refl
 take-is_prefix (false ∷ p) (false ∷ k) h = ap (λ (l : Bits). false ∷ l) (take-is_prefix p k h)
 take-is_prefix (true ∷ p) (true ∷ k) h = ap (λ (l : Bits). true ∷ l) (take-is_prefix p k h)
+take-is_prefix (false ∷ p) [] h = elim h [ ]
+take-is_prefix (false ∷ p) (true ∷ k) h = elim h [ ]
+take-is_prefix (true ∷ p) [] h = elim h [ ]
+take-is_prefix (true ∷ p) (false ∷ k) h = elim h [ ]
 
 -- two prefixes of one string that are equally wide are one
 pub is_prefix_same : (p q k : Bits) → T (is_prefix p k) → T (is_prefix q k) → length p ≡ length q → p ≡ q
@@ -63,6 +87,13 @@ take_next [] (false ∷ k) false h = refl
 take_next [] (true ∷ k) true h = refl
 take_next (false ∷ s) (false ∷ k) x h = ap (λ (l : Bits). false ∷ l) (take_next s k x h)
 take_next (true ∷ s) (true ∷ k) x h = ap (λ (l : Bits). true ∷ l) (take_next s k x h)
+take_next [] [] x h = elim h [ ]
+take_next [] (false ∷ k) true h = elim h [ ]
+take_next [] (true ∷ k) false h = elim h [ ]
+take_next (false ∷ s) [] x h = elim h [ ]
+take_next (false ∷ s) (true ∷ k) x h = elim h [ ]
+take_next (true ∷ s) [] x h = elim h [ ]
+take_next (true ∷ s) (false ∷ k) x h = elim h [ ]
 
 -- ---- lcp
 
@@ -96,17 +127,41 @@ pub lcp-greatest : (p a b : Bits) → T (is_prefix p a) → T (is_prefix p b) �
 lcp-greatest [] a b h k = tt
 lcp-greatest (false ∷ p) (false ∷ a) (false ∷ b) h k = lcp-greatest p a b h k
 lcp-greatest (true ∷ p) (true ∷ a) (true ∷ b) h k = lcp-greatest p a b h k
+lcp-greatest (false ∷ p) [] b h k = elim h [ ]
+lcp-greatest (false ∷ p) (false ∷ a) [] h k = elim k [ ]
+lcp-greatest (false ∷ p) (false ∷ a) (true ∷ b) h k = elim k [ ]
+lcp-greatest (false ∷ p) (true ∷ a) b h k = elim h [ ]
+lcp-greatest (true ∷ p) [] b h k = elim h [ ]
+lcp-greatest (true ∷ p) (false ∷ a) b h k = elim h [ ]
+lcp-greatest (true ∷ p) (true ∷ a) [] h k = elim k [ ]
+lcp-greatest (true ∷ p) (true ∷ a) (false ∷ b) h k = elim k [ ]
 
 pub lcp-prefix : (s a : Bits) → T (is_prefix s a) → lcp s a ≡ s
 lcp-prefix [] a h = refl
 lcp-prefix (false ∷ s) (false ∷ a) h = ap (λ (l : Bits). false ∷ l) (lcp-prefix s a h)
 lcp-prefix (true ∷ s) (true ∷ a) h = ap (λ (l : Bits). true ∷ l) (lcp-prefix s a h)
+lcp-prefix (false ∷ s) [] h = elim h [ ]
+lcp-prefix (false ∷ s) (true ∷ a) h = elim h [ ]
+lcp-prefix (true ∷ s) [] h = elim h [ ]
+lcp-prefix (true ∷ s) (false ∷ a) h = elim h [ ]
 
 -- two strings that go on after s with different bits
 pub lcp_split : (s a b : Bits) → T (is_prefix (s ++ (false ∷ [])) a) → T (is_prefix (s ++ (true ∷ [])) b) → lcp a b ≡ s
 lcp_split [] (false ∷ a) (true ∷ b) h k = refl
 lcp_split (false ∷ s) (false ∷ a) (false ∷ b) h k = ap (λ (l : Bits). false ∷ l) (lcp_split s a b h k)
 lcp_split (true ∷ s) (true ∷ a) (true ∷ b) h k = ap (λ (l : Bits). true ∷ l) (lcp_split s a b h k)
+lcp_split [] [] b h k = elim h [ ]
+lcp_split [] (false ∷ a) [] h k = elim k [ ]
+lcp_split [] (false ∷ a) (false ∷ b) h k = elim k [ ]
+lcp_split [] (true ∷ a) b h k = elim h [ ]
+lcp_split (false ∷ s) [] b h k = elim h [ ]
+lcp_split (false ∷ s) (false ∷ a) [] h k = elim k [ ]
+lcp_split (false ∷ s) (false ∷ a) (true ∷ b) h k = elim k [ ]
+lcp_split (false ∷ s) (true ∷ a) b h k = elim h [ ]
+lcp_split (true ∷ s) [] b h k = elim h [ ]
+lcp_split (true ∷ s) (false ∷ a) b h k = elim h [ ]
+lcp_split (true ∷ s) (true ∷ a) [] h k = elim k [ ]
+lcp_split (true ∷ s) (true ∷ a) (false ∷ b) h k = elim k [ ]
 
 pub length-lcp : (a b : Bits) → length (lcp a b) ≤ length a
 length-lcp a b = is_prefix_length (lcp a b) a (lcp_left a b)
@@ -184,6 +239,11 @@ pub equal_true : (p q : Bits) → T (equal p q) → p ≡ q
 equal_true [] [] h = refl
 equal_true (false ∷ p) (false ∷ q) h = ap (λ (l : Bits). false ∷ l) (equal_true p q h)
 equal_true (true ∷ p) (true ∷ q) h = ap (λ (l : Bits). true ∷ l) (equal_true p q h)
+equal_true [] (_ ∷ q) h = elim h [ ]
+equal_true (false ∷ p) [] h = elim h [ ]
+equal_true (false ∷ p) (true ∷ q) h = elim h [ ]
+equal_true (true ∷ p) [] h = elim h [ ]
+equal_true (true ∷ p) (false ∷ q) h = elim h [ ]
 
 pub equal_refl : (p : Bits) → T (equal p p)
 equal_refl p = rw order_refl tt
@@ -196,6 +256,7 @@ eq-equal p q e = rw e (equal_refl q)
 pub before_irrefl : (p : Bits) → T (before p p) → ⊥
 before_irrefl (false ∷ p) h = before_irrefl p h
 before_irrefl (true ∷ p) h = before_irrefl p h
+before_irrefl [] h = elim h [ ]
 
 pub before_trans : (p q r : Bits) → T (before p q) → T (before q r) → T (before p r)
 before_trans [] (y ∷ q) (z ∷ r) h k = tt
@@ -203,23 +264,58 @@ before_trans (false ∷ p) (false ∷ q) (false ∷ r) h k = before_trans p q r 
 before_trans (false ∷ p) (false ∷ q) (true ∷ r) h k = tt
 before_trans (false ∷ p) (true ∷ q) (true ∷ r) h k = tt
 before_trans (true ∷ p) (true ∷ q) (true ∷ r) h k = before_trans p q r h k
+before_trans [] [] r h k = elim h [ ]
+before_trans [] (y ∷ q) [] h k = elim k [ ]
+before_trans (false ∷ p) [] r h k = elim h [ ]
+before_trans (false ∷ p) (false ∷ q) [] h k = elim k [ ]
+before_trans (false ∷ p) (true ∷ q) [] h k = elim k [ ]
+before_trans (false ∷ p) (true ∷ q) (false ∷ r) h k = elim k [ ]
+before_trans (true ∷ p) [] r h k = elim h [ ]
+before_trans (true ∷ p) (false ∷ q) r h k = elim h [ ]
+before_trans (true ∷ p) (true ∷ q) [] h k = elim k [ ]
+before_trans (true ∷ p) (true ∷ q) (false ∷ r) h k = elim k [ ]
 
 -- of two prefixes of one string, the one that comes before is shorter
 pub before_length : (k p q : Bits) → T (is_prefix p k) → T (is_prefix q k) → T (before p q) → length p < length q
 before_length k [] (y ∷ q) h i b = suc-le-suc zero-le
 before_length (false ∷ k) (false ∷ p) (false ∷ q) h i b = suc-le-suc (before_length k p q h i b)
 before_length (true ∷ k) (true ∷ p) (true ∷ q) h i b = suc-le-suc (before_length k p q h i b)
+before_length k [] [] h i b = elim b [ ]
+before_length [] (_ ∷ p) q h i b = elim h [ ]
+before_length (false ∷ k) (false ∷ p) [] h i b = elim b [ ]
+before_length (false ∷ k) (false ∷ p) (true ∷ q) h i b = elim i [ ]
+before_length (false ∷ k) (true ∷ p) q h i b = elim h [ ]
+before_length (true ∷ k) (false ∷ p) q h i b = elim h [ ]
+before_length (true ∷ k) (true ∷ p) [] h i b = elim b [ ]
+before_length (true ∷ k) (true ∷ p) (false ∷ q) h i b = elim i [ ]
 
 -- a prefix comes before everything that extends it
 pub before-longer : (s a : Bits) (x : Bool) → T (is_prefix (s ++ (x ∷ [])) a) → T (before s a)
 before-longer [] (y ∷ a) x h = tt
 before-longer (false ∷ s) (false ∷ a) x h = before-longer s a x h
 before-longer (true ∷ s) (true ∷ a) x h = before-longer s a x h
+before-longer [] [] x h = elim h [ ]
+before-longer (false ∷ s) [] x h = elim h [ ]
+before-longer (false ∷ s) (true ∷ a) x h = elim h [ ]
+before-longer (true ∷ s) [] x h = elim h [ ]
+before-longer (true ∷ s) (false ∷ a) x h = elim h [ ]
 
 pub before_split : (s a b : Bits) → T (is_prefix (s ++ (false ∷ [])) a) → T (is_prefix (s ++ (true ∷ [])) b) → T (before a b)
 before_split [] (false ∷ a) (true ∷ b) h k = tt
 before_split (false ∷ s) (false ∷ a) (false ∷ b) h k = before_split s a b h k
 before_split (true ∷ s) (true ∷ a) (true ∷ b) h k = before_split s a b h k
+before_split [] [] b h k = elim h [ ]
+before_split [] (false ∷ a) [] h k = elim k [ ]
+before_split [] (false ∷ a) (false ∷ b) h k = elim k [ ]
+before_split [] (true ∷ a) b h k = elim h [ ]
+before_split (false ∷ s) [] b h k = elim h [ ]
+before_split (false ∷ s) (false ∷ a) [] h k = elim k [ ]
+before_split (false ∷ s) (false ∷ a) (true ∷ b) h k = elim k [ ]
+before_split (false ∷ s) (true ∷ a) b h k = elim h [ ]
+before_split (true ∷ s) [] b h k = elim h [ ]
+before_split (true ∷ s) (false ∷ a) b h k = elim h [ ]
+before_split (true ∷ s) (true ∷ a) [] h k = elim k [ ]
+before_split (true ∷ s) (true ∷ a) (false ∷ b) h k = elim k [ ]
 
 -- what comes before a string comes before its extensions
 pub before-prefix : (z p a : Bits) → T (before z p) → T (is_prefix p a) → T (before z a)
@@ -227,12 +323,31 @@ before-prefix [] (y ∷ p) (x ∷ a) h k = tt
 before-prefix (false ∷ z) (false ∷ p) (false ∷ a) h k = before-prefix z p a h k
 before-prefix (false ∷ z) (true ∷ p) (true ∷ a) h k = tt
 before-prefix (true ∷ z) (true ∷ p) (true ∷ a) h k = before-prefix z p a h k
+before-prefix [] [] a h k = elim h [ ]
+before-prefix [] (y ∷ p) [] h k = elim k [ ]
+before-prefix (false ∷ z) [] a h k = elim h [ ]
+before-prefix (false ∷ z) (false ∷ p) [] h k = elim k [ ]
+before-prefix (false ∷ z) (false ∷ p) (true ∷ a) h k = elim k [ ]
+before-prefix (false ∷ z) (true ∷ p) [] h k = elim k [ ]
+before-prefix (false ∷ z) (true ∷ p) (false ∷ a) h k = elim k [ ]
+before-prefix (true ∷ z) [] a h k = elim h [ ]
+before-prefix (true ∷ z) (false ∷ p) a h k = elim h [ ]
+before-prefix (true ∷ z) (true ∷ p) [] h k = elim k [ ]
+before-prefix (true ∷ z) (true ∷ p) (false ∷ a) h k = elim k [ ]
 
 -- whatever stands between a string and an extension of it begins with it
 pub is_prefix-between : (p a z : Bits) → T (is_prefix p a) → T (not (before z p)) → T (before z a) → T (is_prefix p z)
 is_prefix-between [] a z h n b = tt
 is_prefix-between (false ∷ p) (false ∷ a) (false ∷ z) h n b = is_prefix-between p a z h n b
 is_prefix-between (true ∷ p) (true ∷ a) (true ∷ z) h n b = is_prefix-between p a z h n b
+is_prefix-between (false ∷ p) [] z h n b = elim h [ ]
+is_prefix-between (false ∷ p) (false ∷ a) [] h n b = elim n [ ]
+is_prefix-between (false ∷ p) (false ∷ a) (true ∷ z) h n b = elim b [ ]
+is_prefix-between (false ∷ p) (true ∷ a) z h n b = elim h [ ]
+is_prefix-between (true ∷ p) [] z h n b = elim h [ ]
+is_prefix-between (true ∷ p) (false ∷ a) z h n b = elim h [ ]
+is_prefix-between (true ∷ p) (true ∷ a) [] h n b = elim n [ ]
+is_prefix-between (true ∷ p) (true ∷ a) (false ∷ z) h n b = elim n [ ]
 
 -- a string does not begin with itself and a bit
 pub longer_irrefl : (s : Bits) (x : Bool) → T (is_prefix (s ++ (x ∷ [])) s) → ⊥

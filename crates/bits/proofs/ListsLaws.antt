@@ -14,6 +14,7 @@ use Rattle.bits.specs.Lists.{keep, any, all, each, last_or}
 
 pub T_true : (a : Bool) → T a → a ≡ true
 T_true true h = refl
+T_true false h = elim h [ ]
 
 pub true-T : (a : Bool) → a ≡ true → T a
 true-T true e = tt
@@ -24,15 +25,20 @@ true-T false e = absurd_false e
 
 pub and_left : (a b : Bool) → T (a && b) → T a
 and_left true b h = tt
+and_left false b h = elim h [ ]
 
 pub and_right : (a b : Bool) → T (a && b) → T b
 and_right true b h = h
+and_right false b h = elim h [ ]
 
 pub and_both : (a b : Bool) → T a → T b → T (a && b)
 and_both true true h k = tt
+and_both false b h k = elim h [ ]
+and_both true false h k = elim k [ ]
 
 pub or_left : (a b : Bool) → T a → T (a || b)
 or_left true b h = tt
+or_left false b h = elim h [ ]
 
 pub or_right : (a b : Bool) → T b → T (a || b)
 or_right true b h = tt
@@ -68,6 +74,7 @@ module _ {A : Type 0} where
   pub mem-any : (f : A → Bool) (xs : List A) (a : A) → Memᴰ a xs → T (f a) → T (any f xs)
   mem-any f (x ∷ xs) a (Memᴰ.head e) h = or_left (f x) (any f xs) (rw e at h)
   mem-any f (x ∷ xs) a (Memᴰ.tail i) h = or_right (f x) (any f xs) (mem-any f xs a i h)
+  mem-any f [] a absent h = elim absent [ ]
 
   any_mem_at : (f : A → Bool) (b : Bool) (x : A) (xs : List A) → f x ≡ b → (T (any f xs) → (a : A) × Memᴰ a xs × T (f a))
       → T (b || any f xs) → (a : A) × Memᴰ a (x ∷ xs) × T (f a)
@@ -76,6 +83,7 @@ module _ {A : Type 0} where
 
   pub any_mem : (f : A → Bool) (xs : List A) → T (any f xs) → (a : A) × Memᴰ a xs × T (f a)
   any_mem f (x ∷ xs) h = any_mem_at f (f x) x xs refl (any_mem f xs) h
+  any_mem f [] h = elim h [ ]
 
   -- ---- all
 
@@ -91,6 +99,7 @@ module _ {A : Type 0} where
   pub all_mem : (f : A → Bool) (xs : List A) → T (all f xs) → (a : A) → Memᴰ a xs → T (f a)
   all_mem f (x ∷ xs) h a (Memᴰ.head e) = rw e (and_left (f x) (all f xs) h)
   all_mem f (x ∷ xs) h a (Memᴰ.tail i) = all_mem f xs (and_right (f x) (all f xs) h) a i
+  all_mem f [] h a absent = elim absent [ ]
 
   pub all-last_or : (f : A → Bool) (x : A) (xs : List A) → T (all f (x ∷ xs)) → T (f (last_or x xs))
   all-last_or f x [] h = and_left (f x) true h
@@ -155,6 +164,7 @@ module _ {A : Type 0} where
     -- what passes the test is kept
     pub mem-keep : (xs : List A) (a : A) → Memᴰ a xs → T (f a) → Memᴰ a (keep f xs)
     mem-keep (x ∷ xs) a i h = mem-keep_at (f x) x a xs refl h i (λ j. mem-keep xs a j h)
+    mem-keep [] a i h = elim i [ ]
 
     keep_mem_at : (b : Bool) (x a : A) (xs : List A) → f x ≡ b → Memᴰ a (cond b (x ∷ keep f xs) (keep f xs))
         → (Memᴰ a (keep f xs) → Memᴰ a xs × T (f a)) → Memᴰ a (x ∷ xs) × T (f a)
@@ -165,6 +175,7 @@ module _ {A : Type 0} where
     -- what is kept was there, and passes the test
     pub keep_mem : (xs : List A) (a : A) → Memᴰ a (keep f xs) → Memᴰ a xs × T (f a)
     keep_mem (x ∷ xs) a i = keep_mem_at (f x) x a xs refl i (keep_mem xs a)
+    keep_mem [] a i = elim i [ ]
 
   keep-and_at : (b c : Bool) (g : A → Bool) (x : A) (xs : List A) → g x ≡ c
       → cond (b && c) (x ∷ keep g xs) (keep g xs) ≡ keep g (cond b (x ∷ xs) xs)
@@ -216,7 +227,7 @@ module _ {A : Type 0} where
       split_at (f x) (g x) x (keep (λ y. f y && not (g y)) xs) (keep g xs) (keep f xs) (i x) (length-keep_split f g xs i)
 
 module _ {A B : Type 0} where
-  pub mem-map : (g : A → B) {xs : List A} {a : A} → Memᴰ a xs → Memᴰ (g a) (map g xs)
+  pub mem-map : (g : A → B) {a : A} {xs : List A} → Memᴰ a xs → Memᴰ (g a) (map g xs)
   mem-map g (Memᴰ.head e) = Memᴰ.head (ap g e)
   mem-map g (Memᴰ.tail i) = Memᴰ.tail (mem-map g i)
 

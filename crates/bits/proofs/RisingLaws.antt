@@ -1,7 +1,7 @@
 -- The laws of strictly ascending lists of strings: such a list is the set of its members. No contract cites
 -- this file.
 -- Assumes nothing.
-use mathlib.Core.Path.{◌≡◌, refl, sym, ap, ◌∙◌}
+use mathlib.Core.Path.{◌≡◌, refl, sym, ap, ◌∙◌, sym, subst}
 use mathlib.Core.Bool.{Bool, true, false, cond, true≢false, false≢true}
 use mathlib.Core.List.Memᴰ
 use mathlib.Core.List.{List, [], ◌∷◌, ◌++◌, Memᴰ}
@@ -49,6 +49,8 @@ before-rising p q qs b h =
 
 pub before_not-equal : (o : Order) → T (is_before o) → is_same o ≡ false
 before_not-equal Before h = refl
+before_not-equal Same h = elim h [ ]
+before_not-equal After h = elim h [ ]
 
 -- what comes before all of a list is not in it
 pub any-equal-none : (p : Bits) (qs : List Bits) → T (all (before p) qs) → any (equal p) qs ≡ false
@@ -113,6 +115,7 @@ not-after-last_or x (y ∷ ys) h a (Memᴰ.head e) b =
     before_irrefl x (before_trans x (last_or y ys) x l (rw e at b))
 not-after-last_or x (y ∷ ys) h a (Memᴰ.tail i) b =
     not-after-last_or y ys (and_right (all (before x) (y ∷ ys)) (rising (y ∷ ys)) h) a i b
+not-after-last_or x [] h a (Memᴰ.tail i) b = elim i [ ]
 
 -- of a rising list in two parts, the first is rising, and all of it comes before all of the second
 pub rising_left : (xs ys : List Bits) → T (rising (xs ++ ys)) → T (rising xs)
@@ -127,6 +130,7 @@ rising_parts (x ∷ xs) ys h a b (Memᴰ.head e) j =
     rw e (all_mem (before x) (xs ++ ys) (and_left (all (before x) (xs ++ ys)) (rising (xs ++ ys)) h) b (Memᴰ.append_right xs j))
 rising_parts (x ∷ xs) ys h a b (Memᴰ.tail i) j =
     rising_parts xs ys (and_right (all (before x) (xs ++ ys)) (rising (xs ++ ys)) h) a b i j
+rising_parts [] ys h a b x3 j = elim x3 [ ]
 
 -- ---- keep
 
@@ -135,13 +139,16 @@ before_other p q h = rw order_flip (at (order p q) h)
   where
     at : (o : Order) → T (is_before o) → is_same (flip o) ≡ false
     at Before h = refl
+    at Same h = elim h [ ]
+    at After h = elim h [ ]
 
 -- a member of a rising list stands there once
 pub length-keep-equal : (p : Bits) (ps : List Bits) → T (rising ps) → Memᴰ p ps → length (keep (equal p) ps) ≡ 1
 length-keep-equal p (q ∷ qs) h (Memᴰ.head e) =
     let n : keep (equal q) qs ≡ [] = keep-none (equal q) qs (λ a i k. before_irrefl q
     (rw (← equal_true q a k) at (all_mem (before q) qs (and_left (all (before q) qs) (rising qs) h) a i))) in
-    rw (e, T_true (equal q q) (equal_refl q), n)
+    subst (λ (b : Bits). length (keep (equal b) (q ∷ qs)) ≡ 1) (sym e) (rw (T_true (equal q q) (equal_refl q), n))
 length-keep-equal p (q ∷ qs) h (Memᴰ.tail i) =
     rw (before_other q p (all_mem (before q) qs (and_left (all (before q) qs) (rising qs) h) p i))
     (length-keep-equal p qs (and_right (all (before q) qs) (rising qs) h) i)
+length-keep-equal p [] h absent = elim absent [ ]

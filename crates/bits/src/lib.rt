@@ -1,8 +1,10 @@
 // Bit strings: the two answers that comparing them can have. Types alone: what they mean, and its
 // laws, stand in specs/ and proofs/.
 
+#![tactic(auto)]
+
 // Which of two strings comes first.
-#[derive(Drop)]
+#[derive(Clone, Copy)]
 pub enum Order {
     Before,
     Same,
@@ -11,7 +13,7 @@ pub enum Order {
 
 // How a key stands to a node's string. Each bit is the first one that only the longer string has,
 // and of two that part, the key's.
-#[derive(Drop)]
+#[derive(Clone, Copy)]
 pub enum Meeting {
     Equal,
     Below(bool),

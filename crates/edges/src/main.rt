@@ -1,5 +1,8 @@
 // Run cases: keys and cells at their edges. Each line is a question and the answer that the code
 // gives; `stdout` beside this folder holds the answers that paper 01 gives.
+
+#![tactic(auto)]
+
 mod cells; // positions and their cells
 mod keys; // keys, alone and in pairs
 mod printing; // keys, numbers and text

@@ -1,5 +1,8 @@
 // Changing a lent table: fresh, store and remove. No public call has a `requires`. A store and a
 // remove survey the key's path, and then write; a refusal writes nothing into the table.
+
+#![tactic(auto)]
+
 ghost use Rattle.std.specs.Prelude.{◌+◌, ◌*◌, ◌≤◌, ◌≡◌, length};
 ghost use Rattle.plans.specs.Planning.{freed_of};
 ghost use Rattle.edits.specs.Fresh.{next_of, chained_on, Fresh};
@@ -13,7 +16,7 @@ use records::{Header, Record};
 
 // ---- fresh
 
-#[derive(Drop)]
+#[derive(Clone, Copy)]
 pub enum Freshened {
     Done,
     BadLength,
@@ -60,7 +63,7 @@ fn spare(l: u32, c: u32) -> Record
 
 // What `store` answers. The first number of Added, Replaced and Full is how many nodes the path
 // has; Replaced has the old zone number.
-#[derive(Drop)]
+#[derive(Clone, Copy)]
 pub enum Stored {
     Added(usize),
     Replaced(usize, u32),
@@ -115,7 +118,7 @@ fn accepted(k: Prefix, n: usize, s: Walk) -> Stored
 
 // What `remove` answers. The first number of Removed and Absent is how many nodes the path has;
 // Removed has the zone number taken out.
-#[derive(Drop)]
+#[derive(Clone, Copy)]
 pub enum Removal {
     Removed(usize, u32),
     BadLength,

@@ -1,5 +1,8 @@
 // Ground cells: a position becomes the prefix of width 64 that names its cell. The column, the row
 // and the spread of a byte stand each behind one name, since each has a change ahead of it.
+
+#![tactic(auto)]
+
 ghost use Rattle.std.specs.Prelude.{◌≤◌, ◌<◌, min, ◌≡◌, true};
 ghost use Rattle.bits.specs.Numbers.{bits_of, value};
 ghost use Rattle.ground.specs.Cells.{within, half_turn, quarter_turn, interleave, prefix_of, Cell};
@@ -7,7 +10,7 @@ ghost use Rattle.ground.specs.Cells.{scaled as scaled_of, column as column_of, r
 
 use prefix::Prefix;
 
-#[derive(Drop)]
+#[derive(Clone, Copy)]
 pub enum Located {
     At(Prefix),
     BadPosition,

@@ -1,12 +1,15 @@
 // The data section of an image: zone numbers in shortest form, ascending. Longer numbers are larger, so the
 // entries stand in runs of one length, and a number's entry is found by halving its run.
+
+#![tactic(auto)]
+
 ghost use Rattle.std.specs.Prelude.{◌+◌, ◌*◌, ◌^◌, ◌≤◌, ◌<◌, ◌≡◌, length};
 ghost use Rattle.image.specs.Bytes.{uint32};
 ghost use Rattle.metadata.specs.Writing.{Put};
 ghost use Rattle.image_data.specs.Runs.{length_of, start_of, share_of, one_more, Placed, Offset};
 
 // How many entries have a number of 0, 1, 2, 3 and 4 bytes.
-#[derive(Drop)]
+#[derive(Clone, Copy)]
 pub struct Runs {
     pub n0: u32,
     pub n1: u32,
@@ -16,7 +19,7 @@ pub struct Runs {
 }
 
 // One of the runs: where it starts, and how many entries it has.
-#[derive(Drop)]
+#[derive(Clone, Copy)]
 struct Run {
     start: usize,
     count: usize,

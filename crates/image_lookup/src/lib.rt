@@ -2,6 +2,9 @@
 // `look` is safe on any bytes, and right for those that the checker accepts. It finds the node count
 // at the end of the bytes, and then reads one record for each bit of the address, to the first that
 // is no node.
+
+#![tactic(auto)]
+
 ghost use Rattle.std.specs.Prelude.{◌+◌, ◌*◌, ◌≤◌, ◌≡◌, length};
 ghost use Rattle.bits.specs.Numbers.{bits_of};
 ghost use Rattle.image_lookup.specs.Looking.{entry_on, leaf_on, walk_on, address_bits, LookImage};
@@ -10,7 +13,7 @@ ghost use Rattle.image_lookup.specs.Following.{follow_on};
 use metadata::Counted;
 
 // The answer: a zone number, no data there, or bytes that no image has.
-#[derive(Drop)]
+#[derive(Clone, Copy)]
 pub enum Looked {
     Zone(u32),
     NoData,

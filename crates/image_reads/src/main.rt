@@ -2,6 +2,9 @@
 // 00 -> 10, 01 -> 20, 0110 -> 30, and one damaged image for each thing that a lookup can meet. Each
 // line is a call and its answer; `stdout` beside this folder holds what paper 01 says of the images,
 // and what `look_on` says of the damaged ones.
+
+#![tactic(auto)]
+
 use image_lookup::Looked;
 use libc::STDOUT_FILENO;
 use metadata::Framed;

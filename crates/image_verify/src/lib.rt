@@ -2,6 +2,9 @@
 // No memory is lent for it: the tree is gone through by recursion, at most 128 deep, and the data
 // section in stretches of 131,072 bytes, for each of which a local bitmap of 16 KiB marks the bytes
 // that some record means. No public call has a `requires`.
+
+#![tactic(auto)]
+
 mod data; // the data section
 mod tree; // the search tree
 mod used; // which data entries are used
@@ -17,7 +20,7 @@ use tree::tree;
 use used::exact;
 
 // The answer: they are, or BadImage.
-#[derive(Drop)]
+#[derive(Clone, Copy)]
 pub enum Verified {
     Yes,
     BadImage,
@@ -81,7 +84,7 @@ fn zeros(bytes: &[u8], at: usize) -> bool
 
 // The nodes of an image, its data entries and its epoch; or bytes that do not end as an image does, or
 // have no room for the nodes.
-#[derive(Drop)]
+#[derive(Clone, Copy)]
 pub enum Described {
     Image(u32, usize, u64),
     BadImage,
@@ -108,7 +111,7 @@ pub fn describe(bytes: &[u8]) -> Described
 // ---- what the parts of the check answer
 
 // A data entry: where the next one starts, and its number; or bytes that are none.
-#[derive(Drop)]
+#[derive(Clone, Copy)]
 pub enum Read {
     Entry(usize, u32),
     Bad,
@@ -116,7 +119,7 @@ pub enum Read {
 
 // What a part of the tree comes to: the next node's number, and whether some data hangs in the part;
 // or records that no image has.
-#[derive(Drop)]
+#[derive(Clone, Copy)]
 pub enum Numbered {
     To(u32, bool),
     Bad,

@@ -1,5 +1,8 @@
 // The image writer: a table's map and an epoch, as the file that ships. The table is checked and measured
 // before the first byte is written, so that a refusal leaves the output as it was.
+
+#![tactic(auto)]
+
 mod measure; // what is measured before anything is written
 mod nodes; // the bytes of nodes
 mod tree; // the search tree
@@ -14,7 +17,7 @@ use measure::{length_of, plan_of};
 use tree::put_tree;
 
 // The answer: the length of the image written, or why none is. ShortOut gives the length needed.
-#[derive(Drop)]
+#[derive(Clone, Copy)]
 pub enum Written {
     Wrote(usize),
     BadLength,
@@ -61,7 +64,7 @@ fn put_image(table: &[u32], p: Plan, epoch: u64, out: &mut [u8])
 
 // What is measured before anything is written: the table's root, the nodes of the image, and the
 // runs of its data section.
-#[derive(Drop)]
+#[derive(Clone, Copy)]
 pub struct Plan {
     pub root: u32,
     pub nodes: u32,
@@ -70,7 +73,7 @@ pub struct Plan {
 
 // What writing a part of the tree comes to: the next node's number, and the record that a side holds
 // which leads to the part.
-#[derive(Drop)]
+#[derive(Clone, Copy)]
 pub struct Grown {
     pub next: u32,
     pub top: u32,

@@ -1,6 +1,9 @@
 // Listing in slices: the first b stored prefixes after a resume prefix, in order. The resume's path
 // is walked, and the sides that lie after it are kept open on a stack of links; then a tour reads
 // the nodes after it one by one. Whether more remain is known from links already read.
+
+#![tactic(auto)]
+
 mod links; // the stack of open links
 mod asked; // the refusals of what is asked, before any record is read
 mod touring; // the tour
@@ -17,7 +20,7 @@ use touring::tour_on;
 use way::begin;
 
 // Where a slice starts: at the first stored prefix, or after this one.
-#[derive(Drop)]
+#[derive(Clone, Copy)]
 pub enum Resume {
     Start,
     After(Prefix),
@@ -25,7 +28,7 @@ pub enum Resume {
 
 // What `slice` answers: how many prefixes were given, whether more remain, and the count; or a
 // refusal.
-#[derive(Drop)]
+#[derive(Clone, Copy)]
 pub enum Sliced {
     Given(u32, bool, u32),
     BadLength,
@@ -75,7 +78,7 @@ fn counted(z: Toured, found: u32) -> Sliced
 // ---- what the parts of a slice answer
 
 // The first refusal that applies, or none.
-#[derive(Drop)]
+#[derive(Clone, Copy)]
 pub enum Refused {
     BadLength,
     BadPrefix,
@@ -86,7 +89,7 @@ pub enum Refused {
 
 // Where the tour starts: the link to look at first (0 for none), how many links are open on the
 // stack, and how many nodes the resume's path has.
-#[derive(Drop)]
+#[derive(Clone, Copy)]
 pub enum Seek {
     At(u32, usize, u32),
     Bad,
@@ -94,7 +97,7 @@ pub enum Seek {
 
 // One step on the way to the resume prefix: go on to a link, which must share so many bits with it,
 // or be done with a link to start from; and the side to keep open (0 for none).
-#[derive(Drop)]
+#[derive(Clone, Copy)]
 pub enum Sought {
     On(u32, u32, u32),
     Done(u32, u32),
@@ -102,21 +105,21 @@ pub enum Sought {
 }
 
 // What a tour comes to: how many entries it gave, whether more remain, and how many nodes it passed.
-#[derive(Drop)]
+#[derive(Clone, Copy)]
 pub enum Toured {
     Done(u32, bool, u32),
     Bad,
 }
 
 // What a link of the tour leads to: a node's record, or words that no table has.
-#[derive(Drop)]
+#[derive(Clone, Copy)]
 pub enum Visit {
     Node(Record),
     Bad,
 }
 
 // What the stack gives: the link to look at (0 for none), and how many are then open.
-#[derive(Drop)]
+#[derive(Clone, Copy)]
 pub struct Tour {
     pub next: u32,
     pub depth: usize,

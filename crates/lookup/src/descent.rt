@@ -13,7 +13,7 @@ use prefix::Prefix;
 // Where a descent stands, in as few registers as will do. A record goes by the word at which it starts,
 // which is less than 2^20. There is the next one, that of the last stored node (0 for none), how many
 // bits a node must share, and how many nodes there were.
-#[derive(Drop)]
+#[derive(Clone, Copy)]
 pub struct Descent {
     pub next: usize,
     pub held: usize,
@@ -22,7 +22,7 @@ pub struct Descent {
 }
 
 // The same for an edit, with the last three nodes, 20 bits each and the last one lowest.
-#[derive(Drop)]
+#[derive(Clone, Copy)]
 pub struct Traced {
     pub to: Descent,
     pub last: u64,
@@ -30,7 +30,7 @@ pub struct Traced {
 
 // What a record is to a descent: a node to pass, with its tag and the link by which the key goes on; or
 // anything else.
-#[derive(Drop)]
+#[derive(Clone, Copy)]
 pub enum Turn {
     On(u32, u32),
     Off,

@@ -1,6 +1,9 @@
 // Reading a lent table: the path walk, and the two calls that it serves, fetch and longest match.
 // No public call has a `requires`. A walk reads the nodes of the key's path, and no other record
 // (docs/READS.md).
+
+#![tactic(auto)]
+
 ghost use Rattle.std.specs.Prelude.{◌≤◌, ◌≡◌, length};
 ghost use Rattle.std.proofs.Math.Seq.{paste};
 ghost use Rattle.lookup.specs.Walking.{survey_on};
@@ -20,7 +23,7 @@ pub const TRAIL: usize = 129;
 // ---- fetch
 
 // What `fetch` answers. The first number of Found and of Absent is how many nodes the path has.
-#[derive(Drop)]
+#[derive(Clone, Copy)]
 pub enum Fetched {
     Found(usize, u32),
     BadLength,
@@ -61,7 +64,7 @@ fn found_at(k: Prefix, n: usize, best: u32, zone: u32) -> Fetched
 
 // What `longest_match` answers. The first number of Match and of NoMatch is how many nodes the path
 // has; a match has its width and its zone number.
-#[derive(Drop)]
+#[derive(Clone, Copy)]
 pub enum Matched {
     Match(usize, u32, u32),
     NoMatch(usize),
@@ -99,7 +102,7 @@ fn match_at(n: usize, best: u32, zone: u32) -> Matched
 
 // What comes of reading a key's path: how many nodes it has, and the longest stored prefix, as its width
 // plus 1 (0 for none) and its zone number; or a refusal.
-#[derive(Drop)]
+#[derive(Clone, Copy)]
 pub enum Reading {
     Path(usize, u32, u32),
     BadLength,
@@ -146,7 +149,7 @@ fn nodes_of(x: Reading) -> usize
 // Where a walk stands: the links of the last three nodes that are prefixes of the key (0 for none),
 // the link to look at next, and how many bits of the key a node there must share; and the longest
 // stored prefix so far, as its width plus 1 (0 for none) and its zone number.
-#[derive(Drop)]
+#[derive(Clone, Copy)]
 pub struct Walk {
     pub at: u32,
     pub up: u32,
@@ -159,7 +162,7 @@ pub struct Walk {
 
 // What a step finds: a node that is a prefix of the key, with its width and where the walk goes on;
 // a node that is none, with its width and how many bits it shares; no node; words that no table has.
-#[derive(Drop)]
+#[derive(Clone, Copy)]
 pub enum Step {
     Down(u32, Walk),
     Last(u32, u32),
@@ -169,7 +172,7 @@ pub enum Step {
 
 // The node that a walk ends at: the last that is a prefix of the key (0 for none), or one that is
 // none, with how many bits it shares.
-#[derive(Drop)]
+#[derive(Clone, Copy)]
 pub enum Met {
     Matching(u32),
     Mismatching(u32, u32),
@@ -177,7 +180,7 @@ pub enum Met {
 
 // What comes of surveying a key's path: how many nodes it has, where the walk stood at its end and
 // what it met there, or a refusal.
-#[derive(Drop)]
+#[derive(Clone, Copy)]
 pub enum Surveyed {
     Path(usize, Walk, Met),
     BadLength,

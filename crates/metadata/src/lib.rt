@@ -1,20 +1,23 @@
 // The last part of an image: the marker and the metadata, fixed byte strings around two numbers, the
 // node count and the epoch. The writer writes them and the checker compares them, by one function
 // here, so that they cannot differ. Every call is safe on any bytes.
+
+#![tactic(auto)]
+
 ghost use Rattle.std.specs.Prelude.{◌+◌, ◌≤◌, ◌<◌, ◌≡◌, length};
 ghost use Rattle.image.specs.Bytes.{bytes_of, short, uint32, uint64};
 ghost use Rattle.metadata.specs.Frames.{tail_of, steps_back, count_on, same_bytes, frame_of, frame_on};
 ghost use Rattle.metadata.specs.Writing.{between, Put, NumberAt, Counts};
 
 // What stands at the end of an image: the node count, the bytes that it takes and those of the epoch.
-#[derive(Drop)]
+#[derive(Clone, Copy)]
 pub enum Counted {
     Nodes(u32, usize, usize),
     Bad,
 }
 
 // A whole marker and metadata at the end: the node count, where the marker starts, the epoch.
-#[derive(Drop)]
+#[derive(Clone, Copy)]
 pub enum Framed {
     Frame(u32, usize, u64),
     Bad,

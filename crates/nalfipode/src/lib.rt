@@ -1,6 +1,9 @@
 // The linked library: each public call as a C function, one file for each group of calls. A C
 // function returns the paper's number of the answer, 0 where accepted, and writes the answer's
 // values into a lent array. None has a `requires`.
+
+#![tactic(auto)]
+
 ghost use Rattle.std.specs.Prelude.{◌≡◌};
 ghost use Rattle.nalfipode.specs.Keys.{key_of};
 
@@ -14,27 +17,27 @@ pub mod reads; // fetch and longest match
 pub mod slices; // a listing's slice
 
 // An answer's number, and then its values, by how many there are.
-#[derive(Drop)]
+#[derive(Clone, Copy)]
 pub struct One(pub u32, pub u32);
 
 // A length may need 64 bits.
-#[derive(Drop)]
+#[derive(Clone, Copy)]
 pub struct Long(pub u32, pub u64);
 
-#[derive(Drop)]
+#[derive(Clone, Copy)]
 pub struct Two(pub u32, pub u32, pub u32);
 
 // What an image says of itself: two counts, and an epoch of 64 bits.
-#[derive(Drop)]
+#[derive(Clone, Copy)]
 pub struct Facts(pub u32, pub u64, pub u64, pub u64);
 
-#[derive(Drop)]
+#[derive(Clone, Copy)]
 pub struct Three(pub u32, pub u32, pub u32, pub u32);
 
-#[derive(Drop)]
+#[derive(Clone, Copy)]
 pub struct Four(pub u32, pub u32, pub u32, pub u32, pub u32);
 
-#[derive(Drop)]
+#[derive(Clone, Copy)]
 pub struct Five(pub u32, pub u32, pub u32, pub u32, pub u32, pub u32);
 
 // The prefix of a width and four words, as they are given.

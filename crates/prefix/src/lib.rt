@@ -1,5 +1,8 @@
 // Prefixes of at most 128 bits in four words, by value. Every operation goes by words, or by halves of
 // 64 bits, with no loop over bits, and is proved against the bit string that the prefix is.
+
+#![tactic(auto)]
+
 ghost use Rattle.std.specs.Prelude.{◌/◌, ◌%◌, ◌≤◌, ◌<◌, min, ◌≡◌, false, ◌++◌, length, get_or, drop};
 ghost use Rattle.bits.specs.Bits.{lcp, order, is_prefix};
 ghost use Rattle.bits.specs.Meet.{meet as meet_of};
@@ -12,7 +15,7 @@ use bits::{Meeting, Order};
 
 // The four words have the highest bits first. A value may be any width and any words: `valid` says
 // whether it is a prefix.
-#[derive(Drop)]
+#[derive(Clone, Copy)]
 pub struct Prefix {
     pub width: u32,
     pub w0: u32,

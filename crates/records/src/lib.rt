@@ -1,6 +1,9 @@
 // The lent table's memory: how long it may be, its header, and its node records. Every other crate
 // reads and writes a table through these functions, so the layout stands here alone
 // (docs/LAYOUT.md draws it).
+
+#![tactic(auto)]
+
 ghost use Rattle.std.specs.Prelude.{ℕ, ◌+◌, ◌≤◌, ◌≡◌, length};
 ghost use Rattle.prefix.specs.Calls.{High};
 ghost use Rattle.records.specs.Layout.{is_table, place, room_of, record_at, header_at, with_record, with_header, with_side};
@@ -12,7 +15,7 @@ use prefix::Prefix;
 // One node record. A link is 0 for none, else the number of a record, the first being 1. The tag is
 // twice the width, plus 1 if a zone is stored here; a spare record has SPARE there, and the next
 // spare record in `left`.
-#[derive(Drop)]
+#[derive(Clone, Copy)]
 pub struct Record {
     pub w0: u32,
     pub w1: u32,
@@ -25,7 +28,7 @@ pub struct Record {
 }
 
 // The links by which a table is entered: the top of the tree, and the first spare record.
-#[derive(Drop)]
+#[derive(Clone, Copy)]
 pub struct Header {
     pub root: u32,
     pub spare: u32,

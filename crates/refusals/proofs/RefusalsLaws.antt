@@ -21,6 +21,7 @@ exactly-walk zero rest n r g same done six = at (eqb n 0) (eqb n 6) refl refl g
     at : (a b : Bool) → eqb n 0 ≡ a → eqb n 6 ≡ b → T (a || (b || false)) → OneOf rest r
     at true b e f h = done (eqb-true n 0 e)
     at false true e f h = subst (OneOf rest) (sym (same 5 (eqb-true n 6 f))) six
+    at false false e f h = elim h [ ]
 
 -- where a call accepts, no refusal of its arguments applies
 pub exactly_accepted : (first : ℕ) (rest : List ℕ) (n : ℕ) → GivenExactly first rest n → n ≡ 0 → first ≡ 0

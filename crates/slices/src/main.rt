@@ -1,6 +1,9 @@
 // Run cases: listing in slices. M9 of paper 01, sizes and outputs at their edges, resume prefixes
 // that are not stored, and slices of 1 with edits between them. Each line is a slice and what it
 // gives; `stdout` beside this folder holds what paper 01 says of it.
+
+#![tactic(auto)]
+
 ghost use Rattle.std.specs.Prelude.{◌≡◌, length};
 
 use libc::STDOUT_FILENO;

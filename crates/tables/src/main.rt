@@ -1,6 +1,9 @@
 // Run cases: the small cases M2 to M8 of paper 01 and their neighbours, through the calls on a lent
 // table; the lengths of a table; and the order of the refusals. Each line is a call and what it
 // answers; `stdout` beside this folder holds the answers that paper 01 gives.
+
+#![tactic(auto)]
+
 mod calls; // one call, and a line
 mod printing; // trails, numbers and text
 

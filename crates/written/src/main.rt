@@ -2,6 +2,9 @@
 // and 128, equal halves, zone numbers and epochs at each byte's edge, an output one byte short, and
 // refused tables. Each line is a table and the bytes written; `stdout` beside this folder holds what a
 // separate model of paper 01 gives.
+
+#![tactic(auto)]
+
 use image_write::Written;
 use libc::STDOUT_FILENO;
 use prefix::Prefix;
