@@ -10,7 +10,7 @@ use mathlib.Core.List.Memᴰ
 use mathlib.Core.List.{List, [], ◌∷◌, ◌++◌, map, Memᴰ}
 use mathlib.Core.Option
 use mathlib.Core.Option.{Option, none, some, some-injective, none-ne-some}
-use lib.Dec.{T, ltb, leb, eqb, ltb→lt, lt→ltb, leb→le, eqb→eq, eqb_refl, not-T}
+use lib.Dec.{T, ltb, leb, eqb, ltb→lt, lt→ltb, leb→le, eqb→eq, eqb_refl, not_T}
 use lib.ListN.{length, length-append, length-map}
 use borrow.Author.Tests.{eq-eqb}
 use Rattle.bits.specs.Lists.{all, keep, each}
@@ -154,7 +154,7 @@ length-ascending (z ∷ zs) ys h k =
     other : (x : ℕ) → Memᴰ x zs → T (not (eqb z x))
     other x i =
         let l : z < x = ltb→lt z x (all_mem (ltb z) zs (and_left (all (ltb z) zs) (ascending_numbers zs) h) x i) in
-        not-T (eqb z x) (λ t. let e : z ≡ x = eqb→eq z x t in omega arith)
+        not_T (eqb z x) (λ t. let e : z ≡ x = eqb→eq z x t in omega arith)
 
 pub length-zones_of : (m : Map) → length (zones_of (forks_of m)) ≤ length m
 length-zones_of m =

@@ -8,7 +8,7 @@ use mathlib.Core.Path.{◌≡◌, refl, sym, ap, ap₂, ◌∙◌, subst}
 use mathlib.Core.Bool.{Bool, true, false, not, cond}
 use mathlib.Core.List.{List, [], ◌∷◌, ◌++◌, map, append_assoc, append-nil, map-append, Memᴰ}
 use mathlib.Core.Option.{Option, none, some}
-use lib.Dec.{T, eqb-suc-zero, T_not, not-T}
+use lib.Dec.{T, eqb-suc-zero, T_not, not_T}
 use lib.ListN.{length, take, drop, length-map}
 use lib.Seq.{drop-nil, take-nil}
 use Rattle.bits.specs.Lists.{keep, any, last, last_or, is_empty}
@@ -186,7 +186,7 @@ keep_not-after i is js h =
     let ks : List Bits = keys_of (i ∷ is) in
     let z : Bits = last_or i.key (keys_of is) in
     let f : Item → Bool = λ j. not (before z j.key) in
-    let l = keep-every f (i ∷ is) (λ j o. not-T (before z j.key)
+    let l = keep-every f (i ∷ is) (λ j o. not_T (before z j.key)
     (not-after-last_or i.key (keys_of is) (rising_left ks (keys_of js) h) j.key (mem-map (λ x. x.key) o))) in
     let r = keep-none f js (λ j o k. T_not (before z j.key) k
     (rising_parts ks (keys_of js) h z j.key (mem-last_or i.key (keys_of is)) (mem-map (λ x. x.key) o))) in

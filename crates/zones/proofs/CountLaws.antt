@@ -80,6 +80,7 @@ counted-from m (b ∷ []) r h e =
 counted-from m (b ∷ (c ∷ bs)) r h e =
     let t : Turn = record { stored = m; size = b } in
     omega (arith, passed_next r t, counted-from m (c ∷ bs) (next r t) h e)
+counted-from m [] r h e = elim e [ ]
 
 -- "the counts add up to the number of nodes plus the paths of the resumes"
 pub counted-whole : (m : Map) (bs : List ℕ) → T (ascending m) → T (ended none (turns m bs))
@@ -156,6 +157,7 @@ given_keys-width r t h a i = leb-true (length a) 128 (T_true (leb (length a) 128
     at : (m : Map) → T (all (λ e. leb (length e.key) 128) m) → Memᴰ a (keys m) → T (leb (length a) 128)
     at (e ∷ m) h (mathlib.Core.List.Memᴰ.head q) = rw q (and_left (leb (length e.key) 128) (all (λ e. leb (length e.key) 128) m) h)
     at (e ∷ m) h (mathlib.Core.List.Memᴰ.tail j) = at m (and_right (leb (length e.key) 128) (all (λ e. leb (length e.key) 128) m) h) j
+    at [] h absent = elim absent [ ]
 
 -- "It is at most 129 + 129b."
 pub count-bound : (m : Map) (r : Option Bits) (b : ℕ) → T (ascending m) → T (all (λ e. leb (length e.key) 128) m)

@@ -154,6 +154,10 @@ module _ {A : Type 0} where
   collapsed_full a s (some z) true t o h i = refl
   collapsed_full a s none false (node b p v l r) (node d q w m n) h i = refl
   collapsed_full a s none true (node b p v l r) (node d q w m n) h i = refl
+  collapsed_full a s none false tip o h i = elim h [ ]
+  collapsed_full a s none false (node b p v l r) tip h i = elim i [ ]
+  collapsed_full a s none true tip o h i = elim h [ ]
+  collapsed_full a s none true (node b p v l r) tip h i = elim i [ ]
 
   -- what is left below keeps everything above in its place
   pub pull_full : (c : Context A) (t : Tree A) → GoodAbove c → T (full t) → pull c t ≡ plug c t

@@ -175,6 +175,7 @@ get_mem e (f ∷ m) h (Memᴰ.tail i) =
   where
     before-order : (o : Order) → T (is_before o) → o ≡ Before
     before-order Before h = refl
+get_mem e [] h absent = elim absent [ ]
 
 -- two stores on different keys, in either order
 pub put-put : (e f : Entry) (m : Map) → T (ascending m) → equal e.key f.key ≡ false → put e (put f m) ≡ put f (put e m)

@@ -78,6 +78,8 @@ order-before p q h = at (order p q) h
   where
     at : (o : Order) → T (is_before o) → o ≡ Before
     at Before h = refl
+    at Same h = elim h [ ]
+    at After h = elim h [ ]
 
 pub put_first : (e : Entry) (m : Map) → ((f : Entry) → Memᴰ f m → T (before e.key f.key)) → put e m ≡ e ∷ m
 put_first e [] h = refl

@@ -6,7 +6,7 @@ use mathlib.Core.Path.{◌≡◌, refl, sym, ◌∙◌, subst}
 use mathlib.Core.Bool.{Bool, true, false, not}
 use mathlib.Core.List.{[], ◌∷◌, ◌++◌, append-nil, Memᴰ}
 use mathlib.Core.Option.{Option, none, some}
-use lib.Dec.{T, not-T}
+use lib.Dec.{T, not_T}
 use Rattle.bits.specs.Bits.{Bits, is_prefix, equal}
 use Rattle.bits.specs.Meet.{meet}
 use Rattle.bits.specs.declared.Meeting.{Meeting}
@@ -62,7 +62,7 @@ without_node k m n o = keep_node (λ e. not (equal k e.key)) m n o
 -- a map that has no such key stays as it is
 without_other : (k : Bits) (m : Map) → ((e : Entry) → Memᴰ e m → k ≡ e.key → ⊥) → without k m ≡ m
 unfolding without
-without_other k m h = keep-every (λ e. not (equal k e.key)) m (λ e i. not-T (equal k e.key) (λ j. h e i (equal_true k e.key j)))
+without_other k m h = keep-every (λ e. not (equal k e.key)) m (λ e i. not_T (equal k e.key) (λ j. h e i (equal_true k e.key j)))
 
 -- so does one whose keys begin with what k does not begin with
 without-begin : (k p : Bits) (m : Map) → KeysBegin p m → (T (is_prefix p k) → ⊥) → without k m ≡ m

@@ -94,6 +94,7 @@ rest_keys-none r t p h i = at (drop t.size (left t.stored r)) h i
   where
     at : (m : Map) → T (not (not (is_empty m))) → Memᴰ p (keys m) → ⊥
     at [] h i = Memᴰ.not-nil i
+    at (_ ∷ _) h i = elim h [ ]
 
 -- ---- next
 
@@ -157,6 +158,7 @@ mem-listed k r (t ∷ (u ∷ ts)) h s e a =
       | inr i ↦ Memᴰ.append_right (given_keys r t) (mem-listed k (next r t) (u ∷ ts) (and_right (ascending t.stored) hs h)
           (and_right (member k (keys t.stored)) ss s) e (rest_keys_next r t (and_left (ascending t.stored) hs h) k i))
     ]
+mem-listed k r [] h s e a = elim e [ ]
 
 -- "whatever stays stored from the first slice to the last is listed exactly once"
 pub listed_once : (k : Bits) (ts : List Turn) → T (all (λ t. ascending t.stored) ts) → T (all (λ t. member k (keys t.stored)) ts)

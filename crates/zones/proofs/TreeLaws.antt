@@ -31,6 +31,7 @@ pub mem-keys : (m : Map) (e : Entry) → Memᴰ e m → Memᴰ e.key (keys m)
 unfolding keys
 mem-keys (f ∷ m) e (Memᴰ.head h) = Memᴰ.head (ap (λ (x : Entry). x.key) h)
 mem-keys (f ∷ m) e (Memᴰ.tail i) = Memᴰ.tail (mem-keys m e i)
+mem-keys [] e x' = elim x' [ ]
 
 -- ---- keep
 
@@ -41,6 +42,8 @@ keep_node f m n o = keep_append f m (n ++ o) ∙ ap (λ (l : Map). keep f m ++ l
 
 pub mem-own : (s : Bits) (v : Option ℕ) (e : Entry) → Memᴰ e (own s v) → e.key ≡ s
 mem-own s (some z) e (Memᴰ.head h) = ap (λ (x : Entry). x.key) h
+mem-own s none e x' = elim x' [ ]
+mem-own s (some z) e (Memᴰ.tail x6) = elim x6 [ ]
 
 -- ---- keys (entries t), by clauses that compute
 
@@ -78,6 +81,8 @@ KeysBegin p m = (e : Entry) → Memᴰ e m → T (is_prefix p e.key)
 
 mem-own_key : (s : Bits) (v : Option ℕ) (a : Bits) → Memᴰ a (own_key s v) → a ≡ s
 mem-own_key s (some z) a (Memᴰ.head e) = e
+mem-own_key s none a x' = elim x' [ ]
+mem-own_key s (some z) a (Memᴰ.tail x6) = elim x6 [ ]
 
 pub begin-append : (p : Bits) (xs ys : List Bits) → Begin p xs → Begin p ys → Begin p (xs ++ ys)
 begin-append p xs ys h k a i = elim (Memᴰ.append_cases xs i) [ inl j ↦ h a j | inr j ↦ k a j ]
@@ -158,6 +163,7 @@ module _ {A : Type 0} where
   some_stored p (node c s none l r) g f =
       let m = some_stored (s ++ (false ∷ [])) l g.2 g.1.0 in
       (m.0, Memᴰ.append_left (stored r) m.1)
+  some_stored p tip g f = elim f [ ]
 
   node_top : (p : Bits) (c : A) (s : Bits) (v : Option ℕ) (l r : Tree A) → Good p (node c s v l r) → Node (stored (node c s v l r)) s
   node_top p c s (some z) l r g =
@@ -180,6 +186,7 @@ module _ {A : Type 0} where
         | inr j ↦ node-wider (stored r) (stored (node c s v l r)) a (λ b y. Memᴰ.append_right (own_key s v) (Memᴰ.append_right (stored l) y))
             (mem-strings_stored (s ++ (true ∷ [])) r g.3 a j)
       ]
+  mem-strings_stored p tip g a absent = elim absent [ ]
 
   -- every string is the longest common prefix of two stored keys
   pub mem-strings : (p : Bits) (t : Tree A) → Good p t → (a : Bits) → Memᴰ a (strings t) → Node (keys (entries t)) a
