@@ -2,11 +2,7 @@
 -- Assumes nothing.
 use borrow.Author.Rules.{rules}
 use Rattle.bits.proofs.NumbersLaws.{length-lcp-bits_of}
-use Rattle.prefix.proofs.same_top.Statement.{statement}
-use Rattle.prefix.proofs.same_top.Tie as tie
+use Rattle.prefix.proofs.same_top.Goals as goal
 
-returns : tie.Need-returns
+pub returns : goal.returns
 returns c = length-lcp-bits_of 64 _ _ (search rules) (search rules)
-
-pub same-top-spec : {M : Type 1} → statement M
-same-top-spec = tie.close (tie.spec returns)

@@ -3,11 +3,7 @@
 use mathlib.Core.Path.{sym}
 use borrow.Author.Rules.{rules}
 use Rattle.bits.proofs.NumbersLaws.{get_or-bits_of}
-use Rattle.prefix.proofs.half_bit.Statement.{statement}
-use Rattle.prefix.proofs.half_bit.Tie as tie
+use Rattle.prefix.proofs.half_bit.Goals as goal
 
-returns : tie.Need-returns
+pub returns : goal.returns
 returns c = sym (get_or-bits_of 63 _ _ (search rules))
-
-pub half-bit-spec : {M : Type 1} → statement M
-half-bit-spec = tie.close (tie.spec (λ c. search rules) (λ c. search rules) (λ c. search rules) returns)
