@@ -3,14 +3,10 @@
 -- Assumes nothing.
 use borrow.Author.Rules.{rules}
 use Rattle.ground.proofs.CellsLaws.{least_fits, within_back}
-use Rattle.ground.proofs.inside.Statement.{statement}
-use Rattle.ground.proofs.inside.Tie as tie
+use Rattle.ground.proofs.inside.Goals as goal
 
-returns : tie.Need-returns
+pub returns : goal.returns
 returns c = within_back c.args.half (search rules) c.args.z (search rules)
 
-sub-least : tie.Need-overflow-sub-least
-sub-least c = least_fits c.args.half (search rules)
-
-pub inside-spec : {M : Type 1} → statement M
-inside-spec = tie.close (tie.spec (λ c. search rules) sub-least returns)
+pub overflow_sub-least : goal.overflow_sub-least
+overflow_sub-least c = least_fits c.args.half (search rules)

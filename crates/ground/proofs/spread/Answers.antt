@@ -1,0 +1,15 @@
+-- `ground::spread` meets its contract: what 16 bits spread to is what their two bytes spread to, joined.
+-- Assumes nothing.
+use native.Mathlib.Omega.{arith}
+use borrow.Author.Rules.{rules}
+use Rattle.ground.proofs.CellsLaws.{value-turns-lt, value-turns-join}
+use Rattle.ground.proofs.spread.Goals as goal
+
+pub returns : goal.returns
+returns c = value-turns-join 8 8 0 c.args.x (search rules) (search rules)
+
+pub overflow_mul-result : goal.overflow_mul-result
+overflow_mul-result c = omega (arith, returns c, value-turns-lt 16 0 c.args.x)
+
+pub overflow_add-result : goal.overflow_add-result
+overflow_add-result c = omega (arith, returns c, value-turns-lt 16 0 c.args.x)
