@@ -112,6 +112,8 @@ placed-forks_of m f i = rw length-forks_in (placed-forks_in m (image_nodes (keys
 
 uses_stored : (m : Map) (n z : ℕ) (s : Side) → Placed m n s → T (uses z s) → Memᴰ z (map (λ e. e.zone) m)
 uses_stored m n z (to_zone y) (entry i) h = rw (eqb→eq z y h) (mem-map (λ e. e.zone) i)
+uses_stored m n z (to_node _) _ h = elim h [ ]
+uses_stored m n z no_data _ h = elim h [ ]
 
 -- each is a stored entry's
 pub zones_of_stored : (m : Map) (z : ℕ) → Memᴰ z (zones_of (forks_of m)) → Memᴰ z (map (λ e. e.zone) m)
@@ -141,6 +143,7 @@ length-keep-lt z (x ∷ xs) (Memᴰ.tail i) = at (not (eqb z x)) (length-keep-lt
         → length (cond b (x ∷ keep (λ y. not (eqb z y)) xs) (keep (λ y. not (eqb z y)) xs)) < suc (length xs)
     at true h = omega arith
     at false h = omega arith
+length-keep-lt z [] x' = elim x' [ ]
 
 -- different numbers that are all in a list are no more than it has
 pub length-ascending : (zs ys : List ℕ) → T (ascending_numbers zs) → ((z : ℕ) → Memᴰ z zs → Memᴰ z ys) → length zs ≤ length ys

@@ -81,6 +81,7 @@ module _ (q : Bits) where
         let i : T (is_prefix s n.one) = subst (λ (x : Bits). T (is_prefix x n.one)) (sym n.is) (lcp_left n.one n.two) in
         rw (any-keys (entries (node c s v l r))) at
         (mem-any (goes_on q) (keys (entries (node c s v l r))) n.one n.one_in (h n.one (is_prefix_trans p s n.one g.0 i)))
+    goes_some p tip g f h = elim f [ ]
 
     goes_full : (x : Bool) (t : Tree A) → Good (q ++ (x ∷ [])) t → goes (entries t) ≡ full t
     goes_full x tip g = refl
@@ -148,15 +149,36 @@ meet-side [] (false ∷ q) false h = refl
 meet-side [] (true ∷ q) true h = refl
 meet-side (false ∷ s) (false ∷ q) x h = meet-side s q x h
 meet-side (true ∷ s) (true ∷ q) x h = meet-side s q x h
+meet-side [] [] x h = elim h [ ]
+meet-side [] (false ∷ q) true h = elim h [ ]
+meet-side [] (true ∷ q) false h = elim h [ ]
+meet-side (false ∷ s) [] x h = elim h [ ]
+meet-side (false ∷ s) (true ∷ q) x h = elim h [ ]
+meet-side (true ∷ s) [] x h = elim h [ ]
+meet-side (true ∷ s) (false ∷ q) x h = elim h [ ]
 
 pub meet_over : (q s : Bits) (x : Bool) → T (is_prefix (q ++ (x ∷ [])) s) → meet s q ≡ Above x
 meet_over [] (false ∷ s) false h = refl
 meet_over [] (true ∷ s) true h = refl
 meet_over (false ∷ q) (false ∷ s) x h = meet_over q s x h
 meet_over (true ∷ q) (true ∷ s) x h = meet_over q s x h
+meet_over [] [] x h = elim h [ ]
+meet_over [] (false ∷ s) true h = elim h [ ]
+meet_over [] (true ∷ s) false h = elim h [ ]
+meet_over (false ∷ q) [] x h = elim h [ ]
+meet_over (false ∷ q) (true ∷ s) x h = elim h [ ]
+meet_over (true ∷ q) [] x h = elim h [ ]
+meet_over (true ∷ q) (false ∷ s) x h = elim h [ ]
 
 pub meet-beside : (q s : Bits) (x : Bool) → T (is_prefix (q ++ (x ∷ [])) s) → meet s (q ++ (not x ∷ [])) ≡ Apart (not x)
 meet-beside [] (false ∷ s) false h = refl
 meet-beside [] (true ∷ s) true h = refl
 meet-beside (false ∷ q) (false ∷ s) x h = meet-beside q s x h
 meet-beside (true ∷ q) (true ∷ s) x h = meet-beside q s x h
+meet-beside [] [] x h = elim h [ ]
+meet-beside [] (false ∷ s) true h = elim h [ ]
+meet-beside [] (true ∷ s) false h = elim h [ ]
+meet-beside (false ∷ q) [] x h = elim h [ ]
+meet-beside (false ∷ q) (true ∷ s) x h = elim h [ ]
+meet-beside (true ∷ q) [] x h = elim h [ ]
+meet-beside (true ∷ q) (false ∷ s) x h = elim h [ ]

@@ -85,6 +85,7 @@ some-tip p (fork l r) h =
       | inl j ↦ let u = some-tip (p ++ (false ∷ [])) l j in (u.0, Memᴰ.append_left (tips (p ++ (true ∷ [])) r) u.1)
       | inr j ↦ let u = some-tip (p ++ (true ∷ [])) r j in (u.0, Memᴰ.append_right (tips (p ++ (false ∷ [])) l) u.1)
     ]
+some-tip p (leaf none) h = elim h [ ]
 
 module _ (p : Bits) (l r : Trie) where
   in_left : (k : Bits) → Memᴰ k (tips (p ++ (false ∷ [])) l) → Memᴰ k (tips p (fork l r))
@@ -154,6 +155,7 @@ is_fork-tips (fork l r) g q h =
       | inl e ↦ Memᴰ.head e
       | inr o ↦ proper_mem-forks [] (fork l r) q o.whole o.bit o.stored tt o.prefix
     ]
+is_fork-tips (leaf _) g q h = elim g [ ]
 
 forks-is_fork : (t : Trie) → Whole t → (q : Bits) → Memᴰ q (forks [] t) → T (is_fork (tips [] t) q)
 forks-is_fork (fork l r) g q (Memᴰ.head e) = rw e (is_fork_empty (tips [] (fork l r)))
@@ -163,6 +165,7 @@ forks-is_fork (fork l r) g q (Memᴰ.tail i) =
       | inl j ↦ proper-wider q (tips (false ∷ []) l) (tips [] (fork l r)) (in_left [] l r) (mem-forks-proper (false ∷ []) l g.0 q j)
       | inr j ↦ proper-wider q (tips (true ∷ []) r) (tips [] (fork l r)) (in_right [] l r) (mem-forks-proper (true ∷ []) r g.1 q j)
     ])
+forks-is_fork (leaf _) g q _ = elim g [ ]
 
 pub image_nodes-leaves : (t : Trie) → Whole t → image_nodes (keys (leaves [] t)) ≡ forks [] t
 unfolding image_nodes member

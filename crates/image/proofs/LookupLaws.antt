@@ -116,6 +116,8 @@ either (false ∷ a) [] q h = inr (false, tt)
 either (true ∷ a) [] q h = inr (true, tt)
 either (false ∷ a) (false ∷ p) q h = either a p q h
 either (true ∷ a) (true ∷ p) q h = either a p q h
+either (false ∷ a) (true ∷ p) q h = elim h [ ]
+either (true ∷ a) (false ∷ p) q h = elim h [ ]
 
 is_prefix-stays : (m : Map) (p q : Bits) → (T (is_fork (keys m) p) → ⊥) → (e : Entry) → Memᴰ e m → is_prefix e.key p ≡ is_prefix e.key (p ++ q)
 is_prefix-stays m p q n e i =

@@ -86,6 +86,10 @@ next [] (false ∷ q) h = goes false tt
 next [] (true ∷ q) h = goes true tt
 next (false ∷ p) (false ∷ q) h = next_cons false p q (next p q h)
 next (true ∷ p) (true ∷ q) h = next_cons true p q (next p q h)
+next (false ∷ p) [] h = elim h [ ]
+next (false ∷ p) (true ∷ q) h = elim h [ ]
+next (true ∷ p) [] h = elim h [ ]
+next (true ∷ p) (false ∷ q) h = elim h [ ]
 
 -- q is a fork where it is one on its side
 pub mem-fork : (p q : Bits) (l r : Trie) → (T (is_prefix (p ++ (false ∷ [])) q) → Memᴰ q (forks (p ++ (false ∷ [])) l))

@@ -127,6 +127,7 @@ pub keys_mem : (m : Map) (k : Bits) → Memᴰ k (keys m) → (e : Entry) × Mem
 unfolding keys
 keys_mem (e ∷ m) k (Memᴰ.head h) = (e, Memᴰ.head refl, sym h)
 keys_mem (e ∷ m) k (Memᴰ.tail i) = let u = keys_mem m k i in (u.0, Memᴰ.tail u.1, u.2)
+keys_mem [] k x' = elim x' [ ]
 
 holds-zone_at : (m : Map) (k q : Bits) → Memᴰ k (keys m) → T (is_prefix k q) → T (holds (zone_at m q))
 unfolding zone_at

@@ -121,6 +121,7 @@ pub drop-offset : (z : ℕ) (zs : List ℕ) → Memᴰ z zs
     → drop (offset zs z) (data_of zs) ≡ uint32 z ++ drop (offset zs z + length (uint32 z)) (data_of zs)
 unfolding data_of
 drop-offset z (y ∷ ys) i = drop-offset_at (eqb y z) y z ys refl i (drop-offset z ys)
+drop-offset z [] i = elim i [ ]
 
 pub take-offset : (z : ℕ) (zs : List ℕ) → Memᴰ z zs → take (length (uint32 z)) (drop (offset zs z) (data_of zs)) ≡ uint32 z
 take-offset z zs i = rw (drop-offset z zs i) (take-append_seam (uint32 z) (drop (offset zs z + length (uint32 z)) (data_of zs)))

@@ -2,7 +2,7 @@
 -- contract cites this file.
 -- Assumes nothing.
 use Prim.Native.Nat.{ℕ}
-use mathlib.Core.Path.{◌≡◌, refl, sym, ap, ◌∙◌}
+use mathlib.Core.Path.{◌≡◌, refl, sym, ap, ◌∙◌, subst}
 use mathlib.Core.Bool.{Bool, true, false, not, cond, ◌||◌, true≢false}
 use mathlib.Core.List.{List, [], ◌∷◌, Memᴰ}
 use mathlib.Core.Option.{none, some, some-injective, some-ne-none, none-ne-some}
@@ -144,7 +144,7 @@ heads_at Before e f m n c h i g ih = absurd (no_less e f m n (rw c tt) i (g e.ke
 heads_at After e f m n c h i g ih = absurd (no_less f e n m (rw (order_flip e.key f.key, c) tt) h (sym (g f.key)))
 heads_at Same e f m n c h i g ih =
     let d : e.key ≡ f.key = equal_true e.key f.key (rw c tt) in
-    let z : e.zone ≡ f.zone = some-injective e.zone f.zone (sym (get-head e m) ∙ g e.key ∙ rw d (get-head f n)) in
+    let z : e.zone ≡ f.zone = some-injective e.zone f.zone (sym (get-head e m) ∙ g e.key ∙ subst (λ (p : Bits). get p (f ∷ n) ≡ some f.zone) (sym d) (get-head f n)) in
     let t : m ≡ n = ih (λ k. tails_at (equal k e.key) k e f m n d refl (and_left (all (before e.key) (keys m)) (rising (keys m)) h)
     (and_left (all (before f.key) (keys n)) (rising (keys n)) i) (g k)) in
     λ j. record { key = d j; zone = z j } ∷ t j
@@ -166,7 +166,7 @@ map_ext m n h i g = map_ext_at m n h i g
 -- what is stored is got
 pub get_mem : (e : Entry) (m : Map) → T (ascending m) → Memᴰ e m → get e.key m ≡ some e.zone
 unfolding ascending keys
-get_mem e (f ∷ m) h (Memᴰ.head q) = rw q (get-head f m)
+get_mem e (f ∷ m) h (Memᴰ.head q) = subst (λ (x : Entry). get x.key (f ∷ m) ≡ some x.zone) (sym q) (get-head f m)
 get_mem e (f ∷ m) h (Memᴰ.tail i) =
     let b : T (before f.key e.key) =
     all_mem (before f.key) (keys m) (and_left (all (before f.key) (keys m)) (rising (keys m)) h) e.key (mem-map (λ x. x.key) i) in
@@ -175,6 +175,8 @@ get_mem e (f ∷ m) h (Memᴰ.tail i) =
   where
     before-order : (o : Order) → T (is_before o) → o ≡ Before
     before-order Before h = refl
+    before-order Same h = elim h [ ]
+    before-order After h = elim h [ ]
 get_mem e [] h absent = elim absent [ ]
 
 -- two stores on different keys, in either order

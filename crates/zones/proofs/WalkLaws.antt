@@ -124,11 +124,13 @@ module _ (s : Bits) (ls rs : List Bits) (bl : Begin (s ++ (false ∷ [])) ls) (b
     unfolding last_in
     last_in_step [] i =
         let n : length s < length k = omega (arith, length-append s (x ∷ []), is_prefix_length (s ++ (x ∷ [])) k h) in
-        rw (ne_eqb (length s) (length k) (omega arith), take_next s k x h, keep-side x)
+        rw (ne_eqb (length s) (length k) (omega arith))
+        (ap (λ (d : Bits). shortest (keep (is_prefix d) (s ∷ (ls ++ rs)))) (take_next s k x h) ∙ ap shortest (keep-side x))
     last_in_step (q ∷ ks) i =
         let z : Bits = last_or q ks in
         let n : length (s ++ (x ∷ [])) ≤ length z = is_prefix_length (s ++ (x ∷ [])) z (all-last_or (is_prefix (s ++ (x ∷ []))) q ks i) in
-        rw (keep-beyond x (take (suc (length z)) k) (is_prefix-take (s ++ (x ∷ [])) k (suc (length z)) h (omega arith)))
+        ap (λ (l : List Bits). cond (eqb (length z) (length k)) [] (shortest l))
+        (keep-beyond x (take (suc (length z)) k) (is_prefix-take (s ++ (x ∷ [])) k (suc (length z)) h (omega arith)))
 
     path_in_step : path_in (s ∷ (ls ++ rs)) k ≡ s ∷ path_in (pick x ls rs) k
     path_in_step =
