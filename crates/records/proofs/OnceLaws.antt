@@ -23,6 +23,7 @@ times-append l (x ∷ xs) ys = omega (arith, times-append l xs ys)
 pub mem-times : (l : ℕ) (xs : List ℕ) → Memᴰ l xs → 1 ≤ times l xs
 mem-times l (x ∷ xs) (Memᴰ.head e) = rw (eq-eqb l x e) (omega arith)
 mem-times l (x ∷ xs) (Memᴰ.tail i) = omega (arith, mem-times l xs i)
+mem-times l [] x' = elim x' [ ]
 
 times_mem_at : (b : Bool) (l x : ℕ) (xs : List ℕ) → eqb l x ≡ b → 1 ≤ cond b 1 0 + times l xs → (1 ≤ times l xs → Memᴰ l xs) → Memᴰ l (x ∷ xs)
 times_mem_at true l x xs e h ih = Memᴰ.head (eqb-true l x e)
