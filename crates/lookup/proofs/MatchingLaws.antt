@@ -9,7 +9,7 @@ use mathlib.Core.List.{List, [], ◌∷◌}
 use lib.Dec.{eqb}
 use lib.ListN.{length, replicate}
 use borrow.Author.Tests.{eq-eqb, ne_eqb}
-use Rattle.refusals.specs.Refusals.{OneOf, GivenExactly}
+use Rattle.refusals.specs.Refusals.{GivenExactly}
 use Rattle.prefix.specs.declared.Prefix.{Prefix}
 use Rattle.lookup.specs.Walking.{survey_on, first_refusal, leaves_all, Outcome, leave_on}
 use Rattle.lookup.specs.Matching.{match_of, matched_of, longest_on, number_of, values_of, LongestMatch}

@@ -5,15 +5,14 @@
 use Prim.Native.Nat.{ℕ, zero, suc, ◌+◌, ◌-◌, ◌/◌, ◌≤◌}
 use native.Mathlib.Omega.{arith}
 use mathlib.Core.Path.{◌≡◌, refl, sym, ap, ◌∙◌}
-use mathlib.Core.Bool.{Bool, true, false, not, cond}
+use mathlib.Core.Bool.{Bool, true, false, cond}
 use mathlib.Core.List.{List}
 use lib.Dec.{eqb, ltb}
 use lib.ListN.{length, set, replicate}
 use lib.Seq.{paste, paste-zero}
 use Rattle.bits.specs.Numbers.{odd}
-use Rattle.prefix.specs.Calls.{Validity}
 use Rattle.prefix.specs.declared.Prefix.{Prefix}
-use Rattle.records.specs.Layout.{is_table, room_of, record_at}
+use Rattle.records.specs.Layout.{room_of, record_at}
 use Rattle.records.specs.declared.Record.{Record}
 use Rattle.lookup.specs.Walking.{shared_on, side_on, down_on, seen_on, step_on, Survey, after_on, walk_on, walk_from, survey_on, leave_on}
 use Rattle.lookup.specs.Descending.{best_in, zone_in, walk_in, Reached}
