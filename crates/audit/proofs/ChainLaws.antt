@@ -77,6 +77,7 @@ module _ (ws : List ℕ) where
   pub chained_spare : (ls : List ℕ) (l a : ℕ) → Chained (record_at ws) l ls → Memᴰ a ls → is_spare (record_at ws a) ≡ true
   chained_spare (b ∷ ls) l a h (Memᴰ.head e) = rw e h.1
   chained_spare (b ∷ ls) l a h (Memᴰ.tail i) = chained_spare ls (record_at ws b).left a h.2 i
+  chained_spare [] l a h absent = elim absent [ ]
 
   -- from one link there is one length
   length-chained : (xs ys : List ℕ) (l : ℕ) → Chained (record_at ws) l xs → Chained (record_at ws) l ys → Rooms ws xs → Rooms ws ys
@@ -97,6 +98,7 @@ module _ (ws : List ℕ) where
   after (b ∷ ls) l a h rooms (Memᴰ.tail i) =
       let r = after ls (record_at ws b).left a h.2 (rooms-tail rooms) i in
       (r.0, omega (arith, r.1), r.2)
+  after [] l a h rooms x3 = elim x3 [ ]
 
   -- a link that stood again would have a shorter rest
   not_again : (a : ℕ) (ls : List ℕ) → Chained (record_at ws) (record_at ws a).left ls → Rooms ws ls → Memᴰ a ls → ⊥

@@ -81,6 +81,7 @@ module _ (ws : List ℕ) where
         | inl j ↦ linked-valid x (record_at ws b).left a h.2 j
         | inr j ↦ linked-valid y (record_at ws b).right a h.3 j
       ]
+  linked-valid tip l a h absent = elim absent [ ]
 
 -- ---- is_spare
 

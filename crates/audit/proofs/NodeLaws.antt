@@ -49,6 +49,7 @@ full-linked : (ws : List ℕ) (mem : Memory) (l : ℕ) (t : Tree ℕ) → Linked
 full-linked ws mem l (node a s v x y) e rooms f =
     let above = room_of_true (length ws) a (rooms a (Memᴰ.head refl)) in
     true-T (ltb 0 l) (lt-ltb 0 l (omega (arith, e.0)))
+full-linked ws mem l tip e rooms f = elim f [ ]
 
 -- ---- branches
 
