@@ -35,6 +35,8 @@ same_bytes_true : (as' bs : List ℕ) → T (same_bytes as' bs) → as' ≡ bs
 same_bytes_true [] [] h = refl
 same_bytes_true (a ∷ as') (b ∷ bs) h =
     cc (eqb→eq a b (and_left (eqb a b) (same_bytes as' bs) h), same_bytes_true as' bs (and_right (eqb a b) (same_bytes as' bs) h))
+same_bytes_true [] (b ∷ bs) h = elim h [ ]
+same_bytes_true (a ∷ as') [] h = elim h [ ]
 
 -- ---- count_on, frame_on on bytes that end so
 

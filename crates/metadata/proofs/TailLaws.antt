@@ -51,6 +51,7 @@ all_get_d f (x ∷ xs) (suc i) h l = all_get_d f xs i (and_right (f x) (all f xs
 
 not-T_false : (b : Bool) → T (not b) → b ≡ false
 not-T_false false h = refl
+not-T_false mathlib.Core.Bool.true h = elim h [ ]
 
 -- from a place inside a key back to its first byte, which is in no other place of it
 steps_back_key : (pre ks rest : List ℕ) (b d f at : ℕ) → T (all (λ x. not (eqb x b)) ks) → d ≤ length ks → d < f → at ≡ length pre + d
