@@ -31,6 +31,7 @@ get_or_mem (x ∷ xs) (suc i) h = Memᴰ.tail (get_or_mem xs i (omega arith))
 pub mem-get_or : (z : ℕ) (xs : List ℕ) → Memᴰ z xs → (i : ℕ) × (i < length xs) × (get_or xs i 0 ≡ z)
 mem-get_or z (x ∷ xs) (Memᴰ.head e) = (0, omega arith, sym e)
 mem-get_or z (x ∷ xs) (Memᴰ.tail j) = let w = mem-get_or z xs j in (suc w.0, omega arith, w.2)
+mem-get_or z [] x' = elim x' [ ]
 
 -- ---- ascending numbers
 

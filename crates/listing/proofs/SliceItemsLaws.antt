@@ -153,6 +153,7 @@ is_empty-stored_in (i ∷ is) h = at (stored_in (i ∷ is)) h.0
   where
     at : (m : Map) → T (any (is_prefix i.key) (keys m)) → false ≡ is_empty m
     at (e ∷ m) h = refl
+    at [] h = elim h [ ]
 
 -- ---- last: what is stored last of the items up to the b-th stored one is the last of them
 

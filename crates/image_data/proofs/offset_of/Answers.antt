@@ -1,0 +1,39 @@
+-- `image_data::offset_of` meets its contract: a number below 2 ^ 32 has at most four bytes, its run lies in
+-- the section, and its place in the run gives the offset.
+-- Assumes nothing.
+use Prim.Native.Nat.{◌+◌, ◌*◌, ◌≤◌}
+use native.Mathlib.Omega.{arith}
+use borrow.Author.Rules.{rules}
+use Rattle.image.proofs.LengthLaws.{length_short_below}
+use Rattle.image_data.specs.Runs.{length_of}
+use Rattle.image_data.proofs.PlaceLaws.{run-le, offset-placed}
+use Rattle.image_data.proofs.offset_of.Goals as goal
+use Rattle.image_data.proofs.offset_of.Goals.{After-bytes_in-s, After-run_of-run}
+
+few : (c : After-bytes_in-s) → c.bytes_in-s.result ≤ 4
+few c = omega (arith, length_short_below 4 c.args.z (omega arith) (search rules))
+
+ends : (c : After-run_of-run)
+    → c.run_of-run.result.start + (c.bytes_in-s.result + 1) * c.run_of-run.result.count ≤ length_of c.args.runs
+ends c = run-le _ _ _ _ (few (BARE c.before)) (search rules) (search rules)
+
+pub returns : goal.returns
+returns c = offset-placed _ _ _ _ _ _ _ _ (search rules) (few (goal.at.returns c).After-bytes_in-s) (search rules) (search rules) c.IsPlace-in.ensures
+
+pub run_of-run-requires : goal.run_of-run-requires
+run_of-run-requires c = few (goal.at.run_of-run-requires c).After-bytes_in-s
+
+pub overflow_add-base : goal.overflow_add-base
+overflow_add-base c = omega (arith, ends (goal.at.overflow_add-base c).After-run_of-run)
+
+pub place_in-i-requires : goal.place_in-i-requires
+place_in-i-requires c = omega (arith, few (goal.at.place_in-i-requires c).After-bytes_in-s, ends (goal.at.place_in-i-requires c).After-run_of-run)
+
+pub overflow_mul-result : goal.overflow_mul-result
+overflow_mul-result c = omega (arith, (returns c).within)
+
+pub overflow_add-result-2 : goal.overflow_add-result-2
+overflow_add-result-2 c = omega (arith, (returns c).within)
+
+pub overflow_cast-result : goal.overflow_cast-result
+overflow_cast-result c = omega (arith, (returns c).within)

@@ -1,0 +1,18 @@
+-- `listing::way::seek_from` meets its contract. The loop's invariant: the way from here is the way from the
+-- top, and there are no more nodes than bits that the next one must share. The measure is how many of 129
+-- these bits lack.
+-- Assumes nothing.
+use Prim.Native.Nat.{◌-◌, ◌≤◌}
+use native.Mathlib.Omega.{arith}
+use mathlib.Core.Path.{◌≡◌, refl}
+use borrow.Author.Rules.{rules}
+use Rattle.listing.specs.Touring.{seek_on, seek_from}
+use Rattle.listing.proofs.TouringLaws.{sought_on_on, seek_on_end, seek_on-bad, seek_on_done, seek_on_on}
+use Rattle.listing.proofs.way.seek_from.Given as goal
+
+abbrev pub invariant-loop-next : goal.invariant-loop-next
+invariant-loop-next l =
+    (l.found ≤ l.low) × (l.low ≤ 129) × (seek_on (130 - l.found) l.table l.k l.next l.low l.found l.stack l.depth ≡ seek_from l.table l.k l.root l.initial.stack)
+
+abbrev pub decreases-loop-next : goal.decreases-loop-next
+decreases-loop-next l = 129 - l.low
