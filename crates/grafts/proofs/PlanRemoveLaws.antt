@@ -154,6 +154,7 @@ module _ (ws : List ℕ) (k : Prefix) (a n : ℕ) (s : Walk) (room : room_of (le
       plan_remove_on_alone ws k (into b p (some z) x o c) a n s room f st low high
       ∙ rw (st.up, st.at, look_on-room ws b f.0.room, odd_some (record_at ws b) z f.0.bears.zone)
       (pass_on-frames ws k (into b p (some z) x o c) a 0 f)
+  plan_remove_on-stays (into b p none x o c) f st w = elim w [ ]
 
   pub plan_remove_on-twin : (b : ℕ) (p : Bits) (x : Bool) (o : Tree ℕ) (c : Context ℕ) → Frames ws k (into b p none x o c)
       → Stood a b (link_at 0 c) n s

@@ -51,6 +51,7 @@ holds-removed {m = m} h k t us e f =
 pull-stays : (c : Context ℕ) → GoodAbove c → Stays c → pull c tip ≡ plug c tip
 pull-stays top g w = refl
 pull-stays (into a p (some z) x o c) g w = pull_stored a p z x o c g.3
+pull-stays (into a p none x o c) g w = elim w [ ]
 
 -- ---- the key's node a, with the sides l and r, in the open place of c
 
@@ -82,6 +83,7 @@ module _ {ws : List ℕ} {m : Map} (h : Holds ws m) (k : Prefix) (valid : Valid 
     positive-side (node d p v x y) b f i w =
         let j = mem-times d (labels (node d p v x y)) (Memᴰ.head refl) in
         rw i.0 (opened-bounds h c (here l r) e d (omega (arith, w d))).0
+    positive-side tip b f i w = elim f [ ]
 
     positive_low : T (full l) → 0 < (record_at ws a).left
     positive_low f = positive-side l (record_at ws a).left f linked_low (λ d. omega (arith, times-append d (labels l) (labels r)))
@@ -127,6 +129,7 @@ module _ {ws : List ℕ} {m : Map} (h : Holds ws m) (k : Prefix) (valid : Valid 
       (plan_remove_on_low ws k c a n s (room l tip e removed) frames st (positive_low l tip e removed tt) (linked_high l tip e removed))
       (removed ∙ pull_full c l (above l tip e removed) tt) (linked_low l tip e removed) (λ b. omega (arith, times-append b (labels l) []))
   goes-side (node d p v x y) (node b q u o t) e removed w = goes_both (node d p v x y) (node b q u o t) e removed tt tt refl
+  goes-side tip tip e removed w = elim w [ ]
 
   goes-stays : (e : h.tree ≡ plug c (here tip tip)) → remove_tree (string_of k) h.tree ≡ pull c tip → Stays c → Goes ws k m s
   goes-stays e removed w =
