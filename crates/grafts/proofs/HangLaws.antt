@@ -3,7 +3,7 @@
 -- Assumes nothing.
 use Prim.Native.Nat.{ℕ, ◌≤◌}
 use native.Mathlib.Omega.{arith}
-use mathlib.Core.Path.{◌≡◌, refl, sym}
+use mathlib.Core.Path.{◌≡◌, refl, sym, subst}
 use mathlib.Core.Bool.{true}
 use mathlib.Core.List.{List, ◌++◌, Memᴰ}
 use lib.ListN.{length}
@@ -64,6 +64,6 @@ pub framed-hang : (ws us : List ℕ) (c : Context ℕ) (l₀ l : ℕ) → Framed
 framed-hang ws us top l₀ l f root w same once = root
 framed-hang ws us (into a p v x o c) l₀ l f root w same once =
     let none : times a (labels o ++ labels_above c) ≡ 0 = let i = rw (eq-eqb a a refl) at (once a) in omega arith in
-    rw root
+    subst (λ (r : ℕ). Framed (record_at us) r (into a p v x o c) l) (sym root)
     (framed-set (record_at ws) (record_at us) (header_at ws).root a p v x o c l₀ l f w
     (λ b i d. sym (same b (Memᴰ.tail i) d)) none)

@@ -1,11 +1,8 @@
 -- `audit::chain` meets its contract. The loop's invariant: the chain from here is the chain from the start.
 -- The measure is how many records are left.
 -- Assumes nothing.
-use mathlib.Core.Path.{◌≡◌, refl}
-use borrow.Author.Rules.{rules}
-use Rattle.records.proofs.LayoutLaws.{inside_tested}
+use mathlib.Core.Path.{◌≡◌}
 use Rattle.audit.specs.Checking.{chain_on}
-use Rattle.audit.proofs.CheckingLaws.{chain_on_many, chain_on_outside, chain_on_other, chain_on_next, chain_on_end}
 use Rattle.audit.proofs.chain.Given as goal
 
 abbrev pub invariant-loop-at : goal.invariant-loop-at
