@@ -54,6 +54,7 @@ module _ {ws : List ℕ} {m : Map} (h : Holds ws m) (k : Prefix) (valid : Valid 
       goes-here h k valid a z (length p + 1) s c l r f st (rw (y, i) at e) (rw y at removed)
   goes_met (Above x) c a p v l r t u y i w f e removed = absurd (none-ne-some z i)
   goes_met (Apart x) c a p v l r t u y i w f e removed = absurd (none-ne-some z i)
+  goes_met (Rattle.bits.specs.declared.Meeting.TheVariants.Below _) c a p v l r t u y i w f e removed = elim w [ ]
 
   goes-ended : (c : Context ℕ) (t : Tree ℕ) → find t (string_of k) ≡ some z → Ended c t (string_of k) s d → Frames ws k c
       → h.tree ≡ plug c t → remove_tree (string_of k) h.tree ≡ pull c (remove_tree (string_of k) t) → Goes ws k m s

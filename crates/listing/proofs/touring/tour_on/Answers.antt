@@ -41,7 +41,7 @@ loop-o-preserved c =
     let at_loop = c.loop-o in (
       omega (arith, entry_put_most _ _ _ _ _ c.put_entry-n.ensures),
       omega arith,
-      c.put_entry-n.auto.0 ∙ at_loop.invariant.2,
+      c.put_entry-n.auto.out ∙ at_loop.invariant.2,
       tour_on_node _ _ _ _ _ _ _ _ _ _ c.pop-t.ensures (search rules) _ at_loop.invariant.3 (search rules) (search rules) (omega arith)
           _ c.visit_at-x.ensures _ _ _ _ _ c.in-Node.is c.push-o.ensures c.put_entry-n.ensures,
     )
