@@ -1,7 +1,6 @@
 -- `image_data::length_of` meets its contract: no sum of five 32-bit counts, five bytes each at most, wraps.
 -- Assumes nothing.
 use mathlib.Core.Path.{refl}
-use borrow.Author.Rules.{rules}
 use Rattle.image_data.specs.Runs.{length_of}
 use Rattle.image_data.proofs.length_of.Goals as goal
 

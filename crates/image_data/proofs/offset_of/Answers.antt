@@ -5,20 +5,25 @@ use Prim.Native.Nat.{◌+◌, ◌*◌, ◌≤◌}
 use native.Mathlib.Omega.{arith}
 use borrow.Author.Rules.{rules}
 use Rattle.image.proofs.LengthLaws.{length_short_below}
-use Rattle.image_data.specs.Runs.{length_of}
+use Rattle.image_data.specs.Runs.{length_of, Offset}
 use Rattle.image_data.proofs.PlaceLaws.{run-le, offset-placed}
 use Rattle.image_data.proofs.offset_of.Goals as goal
-use Rattle.image_data.proofs.offset_of.Goals.{After-bytes_in-s, After-run_of-run}
+use Rattle.image_data.proofs.offset_of.Goals.{After-bytes_in-s, After-run_of-run, After-place_in-i}
 
 few : (c : After-bytes_in-s) → c.bytes_in-s.result ≤ 4
 few c = omega (arith, length_short_below 4 c.args.z (omega arith) (search rules))
 
 ends : (c : After-run_of-run)
     → c.run_of-run.result.start + (c.bytes_in-s.result + 1) * c.run_of-run.result.count ≤ length_of c.args.runs
-ends c = run-le _ _ _ _ (few (BARE c.before)) (search rules) (search rules)
+ends c = run-le _ _ _ _ (omega (arith, length_short_below 4 c.args.z (omega arith) (search rules))) (search rules) (search rules)
+
+-- what the place in the run gives
+offset : (c : After-place_in-i)
+    → Offset c.args.bytes.now c.args.base c.args.runs c.args.z (c.run_of-run.result.start + (c.bytes_in-s.result + 1) * c.place_in-i.result)
+offset c = offset-placed _ _ _ _ _ _ _ _ (search rules) (omega (arith, length_short_below 4 c.args.z (omega arith) (search rules))) (search rules) (search rules) c.place_in-i.ensures
 
 pub returns : goal.returns
-returns c = offset-placed _ _ _ _ _ _ _ _ (search rules) (few (goal.at.returns c).After-bytes_in-s) (search rules) (search rules) c.IsPlace-in.ensures
+returns c = offset (goal.at.returns c).After-place_in-i
 
 pub run_of-run-requires : goal.run_of-run-requires
 run_of-run-requires c = few (goal.at.run_of-run-requires c).After-bytes_in-s
@@ -30,10 +35,10 @@ pub place_in-i-requires : goal.place_in-i-requires
 place_in-i-requires c = omega (arith, few (goal.at.place_in-i-requires c).After-bytes_in-s, ends (goal.at.place_in-i-requires c).After-run_of-run)
 
 pub overflow_mul-result : goal.overflow_mul-result
-overflow_mul-result c = omega (arith, (returns c).within)
+overflow_mul-result c = omega (arith, (offset (goal.at.overflow_mul-result c).After-place_in-i).within)
 
 pub overflow_add-result-2 : goal.overflow_add-result-2
-overflow_add-result-2 c = omega (arith, (returns c).within)
+overflow_add-result-2 c = omega (arith, (offset (goal.at.overflow_add-result-2 c).After-place_in-i).within)
 
 pub overflow_cast-result : goal.overflow_cast-result
-overflow_cast-result c = omega (arith, (returns c).within)
+overflow_cast-result c = omega (arith, (offset (goal.at.overflow_cast-result c).After-place_in-i).within)

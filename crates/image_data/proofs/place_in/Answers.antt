@@ -5,7 +5,7 @@ use Prim.Native.Nat.{◌+◌, ◌-◌, ◌*◌, ◌/◌, ◌≤◌}
 use native.Mathlib.Omega.{arith}
 use mathlib.Core.Path.{◌≡◌}
 use borrow.Author.Rules.{rules}
-use Rattle.image_data.proofs.PlaceLaws.{Between, between-all, between-after, between-before, placed-between, entry-le}
+use Rattle.image_data.proofs.PlaceLaws.{between-all, between-after, between-before, placed-between, entry-le}
 use Rattle.image_data.proofs.place_in.Goals as goal
 use Rattle.image_data.proofs.place_in.Goals.{In-loop-low}
 

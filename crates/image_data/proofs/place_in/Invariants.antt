@@ -1,11 +1,8 @@
 -- `image_data::place_in` meets its contract. The loop's invariant: a number of the run stands from `low` on
 -- and not after `high`. The measure is what lies between them.
 -- Assumes nothing.
-use Prim.Native.Nat.{◌+◌, ◌-◌, ◌*◌, ◌/◌, ◌≤◌}
-use native.Mathlib.Omega.{arith}
-use mathlib.Core.Path.{◌≡◌}
-use borrow.Author.Rules.{rules}
-use Rattle.image_data.proofs.PlaceLaws.{Between, between-all, between-after, between-before, placed-between, entry-le}
+use Prim.Native.Nat.{◌-◌, ◌≤◌}
+use Rattle.image_data.proofs.PlaceLaws.{Between}
 use Rattle.image_data.proofs.place_in.Given as goal
 
 abbrev pub invariant-loop-low : goal.invariant-loop-low

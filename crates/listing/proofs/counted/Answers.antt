@@ -1,7 +1,6 @@
 -- `listing::counted` meets its contract: a tour that is done gives its answer, and both counts are small.
 -- Assumes nothing.
 use native.Mathlib.Omega.{arith}
-use borrow.Author.Rules.{rules}
 use Rattle.listing.proofs.SlicingLaws.{counted_of_done, few_done}
 use Rattle.listing.proofs.counted.Goals as goal
 

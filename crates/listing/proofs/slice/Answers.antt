@@ -3,14 +3,13 @@
 -- Assumes nothing.
 use Prim.Native.Nat.{ℕ, ◌^◌, ◌<◌}
 use lib.ListN.{get_or}
-use borrow.Author.Rules.{rules}
 use Rattle.listing.proofs.SlicingLaws.{refused_of-allowed, slice_on-refused, slice_on_damaged, slice_on_few, slice_on-toured, slice-promise}
 use Rattle.listing.proofs.slice.Goals as goal
 use Rattle.listing.proofs.slice.Goals.{After-refuse-x}
 
 -- a lent word is of 32 bits
 words : (c : After-refuse-x) (i : ℕ) → get_or c.args.table.now i 0 < 2 ^ 32
-words c i = (c.shared_slice_known-1.given i).fits
+words c i = (c.type_inv.table i).fits
 
 pub begin-y-requires : goal.begin-y-requires
 begin-y-requires c =

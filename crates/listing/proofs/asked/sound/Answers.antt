@@ -1,6 +1,5 @@
 -- `listing::asked::sound` meets its contract: a resume prefix is sound where it is valid.
 -- Assumes nothing.
-use borrow.Author.Rules.{rules}
 use Rattle.listing.proofs.SlicingLaws.{sound_of-after}
 use Rattle.listing.proofs.asked.sound.Goals as goal
 

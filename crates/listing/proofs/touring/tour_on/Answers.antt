@@ -2,12 +2,9 @@
 -- the start, no more entries are given than asked for, no more nodes passed than the table has records, and
 -- the output keeps its length. The measure is how many nodes may still be passed.
 -- Assumes nothing.
-use Prim.Native.Nat.{◌-◌, ◌≤◌}
 use native.Mathlib.Omega.{arith}
-use mathlib.Core.Path.{◌≡◌, refl, ◌∙◌}
-use lib.ListN.{length}
+use mathlib.Core.Path.{refl, ◌∙◌}
 use borrow.Author.Rules.{rules}
-use Rattle.listing.specs.Touring.{tour_on, tour_from}
 use Rattle.listing.proofs.TourOnLaws.{entry_put_most, tour_on_deep, tour_on_over, tour_on_more, tour_on-spent, tour_on-bad, tour_on_node, tour_on_start}
 use Rattle.listing.proofs.touring.tour_on.Goals as goal
 

@@ -1,6 +1,5 @@
 -- `listing::way::begin` meets its contract: the way starts at the root that the header has.
 -- Assumes nothing.
-use borrow.Author.Rules.{rules}
 use Rattle.listing.proofs.TouringLaws.{start_on_start, start_on-after}
 use Rattle.listing.proofs.SlicingLaws.{narrow-after}
 use Rattle.listing.proofs.way.begin.Goals as goal

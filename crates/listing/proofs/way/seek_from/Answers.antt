@@ -2,11 +2,10 @@
 -- top, and there are no more nodes than bits that the next one must share. The measure is how many of 129
 -- these bits lack.
 -- Assumes nothing.
-use Prim.Native.Nat.{◌-◌, ◌≤◌}
 use native.Mathlib.Omega.{arith}
-use mathlib.Core.Path.{◌≡◌, refl}
+use mathlib.Core.Path.{refl}
 use borrow.Author.Rules.{rules}
-use Rattle.listing.specs.Touring.{seek_on, seek_from}
+use Rattle.listing.specs.Touring.{seek_from}
 use Rattle.listing.proofs.TouringLaws.{sought_on_on, seek_on_end, seek_on-bad, seek_on_done, seek_on_on}
 use Rattle.listing.proofs.way.seek_from.Goals as goal
 

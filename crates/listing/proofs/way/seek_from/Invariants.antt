@@ -3,11 +3,8 @@
 -- these bits lack.
 -- Assumes nothing.
 use Prim.Native.Nat.{◌-◌, ◌≤◌}
-use native.Mathlib.Omega.{arith}
-use mathlib.Core.Path.{◌≡◌, refl}
-use borrow.Author.Rules.{rules}
+use mathlib.Core.Path.{◌≡◌}
 use Rattle.listing.specs.Touring.{seek_on, seek_from}
-use Rattle.listing.proofs.TouringLaws.{sought_on_on, seek_on_end, seek_on-bad, seek_on_done, seek_on_on}
 use Rattle.listing.proofs.way.seek_from.Given as goal
 
 abbrev pub invariant-loop-next : goal.invariant-loop-next
