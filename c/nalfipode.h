@@ -1,6 +1,6 @@
 /* Nalfipode: the zone table of a golf rangefinder, for C on x86-64 Linux.
  *
- * Link target/staticlib/libnalfipode.a (rt staticlib nalfipode makes it). No call allocates, keeps a pointer,
+ * Link target/staticlib/libnalfipode.a (.ci/archive makes it). No call allocates, keeps a pointer,
  * or has state of its own; calls on different memory may run at the same time. As the kit compiles it, the
  * image writer takes at most 56 KB of stack, the image checker 32 KB, the check of a table 24 KB, each on the
  * deepest tree, and every other call less than 1 KB.

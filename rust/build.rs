@@ -1,4 +1,4 @@
-//! Links libnalfipode.a, which `rt staticlib nalfipode` writes. NALFIPODE_LIB_DIR names its folder; the
+//! Links libnalfipode.a, which `.ci/archive` writes. NALFIPODE_LIB_DIR names its folder; the
 //! default is the repository's target/staticlib.
 use std::env;
 use std::path::PathBuf;
@@ -13,7 +13,7 @@ fn main() {
     println!("cargo:rerun-if-env-changed=NALFIPODE_LIB_DIR");
     println!("cargo:rerun-if-changed={}", archive.display());
     if !archive.exists() {
-        panic!("{} is not there: run 'rt staticlib nalfipode' first", archive.display());
+        panic!("{} is not there: run .ci/archive first", archive.display());
     }
     println!("cargo:rustc-link-search=native={}", folder.display());
     println!("cargo:rustc-link-lib=static=nalfipode");

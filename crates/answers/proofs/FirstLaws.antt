@@ -12,9 +12,7 @@ use Rattle.audit.specs.Checking as checking
 use Rattle.audit.specs.Checking.{Check}
 use Rattle.audit.specs.declared.Audited.{Audited}
 use Rattle.audit.specs.declared.Audited.TheVariants as audited
-use Rattle.edits.specs.Fresh as fresh
 use Rattle.nalfipode.specs.Changes.{FreshOut}
-use Rattle.nalfipode.specs.Checks.{AuditOut}
 use Rattle.answers.specs.First.{NoInputStops}
 
 -- ---- fresh

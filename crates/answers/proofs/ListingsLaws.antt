@@ -108,6 +108,7 @@ ended-turns o (p ∷ []) f e =
     subst (λ (r : Option Bits). T (not (remains p.stored r p.size))) f.0
     (remains_no (remains p.stored (resume_of p.resume) p.size) (rw (slice-values p.holds p.call) at e))
 ended-turns o (p ∷ (q ∷ ps)) f e = ended-turns (next o (turn_of p)) (q ∷ ps) f.1 e
+ended-turns o [] f e = elim e [ ]
 
 counts-counted : (o : Option Bits) (ps : List Page) → Follows o ps → counts ps ≡ counted o (turns_of ps)
 counts-counted o [] f = refl
@@ -148,6 +149,7 @@ turns_of-turns m (p ∷ ps) h =
 -- the map of a listing that has a slice ascends
 ascending-pages : (m : Map) (ps : List Page) → Ended ps → ((p : Page) → Memᴰ p ps → p.stored ≡ m) → T (ascending m)
 ascending-pages m (p ∷ ps) e h = subst (λ (n : Map). T (ascending n)) (h p (Memᴰ.head refl)) (ascending_holds p.holds)
+ascending-pages m [] e h = elim e [ ]
 
 -- "A whole listing of an unchanged table, in slices, counts each node once plus the search path of each resume."
 pub counts_whole : (m : Map) (ps : List Page) → Follows none ps → Ended ps → ((p : Page) → Memᴰ p ps → p.stored ≡ m)

@@ -3,7 +3,7 @@
 use Prim.Native.Nat.{ℕ, ◌≤◌, ◌<◌}
 use native.Mathlib.Decide.{dec_lt}
 use native.Mathlib.Omega.{arith}
-use mathlib.Core.Path.{◌≡◌, refl, sym, ap, subst, ◌∙◌}
+use mathlib.Core.Path.{◌≡◌, refl, sym, ap, ◌∙◌}
 use mathlib.Core.List.{List, [], ◌∷◌}
 use mathlib.Core.Option.{Option, none, some}
 use lib.IntN.{ℤ}
@@ -26,7 +26,7 @@ use Rattle.audit.specs.Checking as checking
 use Rattle.audit.specs.Checking.{Check}
 use Rattle.audit.specs.declared.Audited.{Audited}
 use Rattle.audit.specs.declared.Audited.TheVariants as audited
-use Rattle.image.specs.Image.{Size, size24, image, image_length, IsImage}
+use Rattle.image.specs.Image.{size24, image, image_length, IsImage}
 use Rattle.image.proofs.LengthLaws.{length-image}
 use Rattle.image.proofs.FitsLaws.{fits-table}
 use Rattle.image_lookup.specs.Looking as looking

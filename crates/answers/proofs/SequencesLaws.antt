@@ -1,11 +1,10 @@
 -- The law of sequences of calls: they tell what the plain map tells. No contract cites this file.
 -- Assumes nothing.
 use Prim.Native.Nat.{ℕ}
-use mathlib.Core.Path.{◌≡◌, refl, sym, ap, ◌∙◌}
-use mathlib.Core.List.{List, [], ◌∷◌}
+use mathlib.Core.Path.{◌≡◌, refl}
+use mathlib.Core.List.{List, ◌∷◌}
 use lib.ListN.{length}
 use Rattle.prefix.specs.Keys.{string_of}
-use Rattle.prefix.specs.declared.Prefix.{Prefix}
 use Rattle.zones.specs.Maps.{Map, get, longest_match}
 use Rattle.zones.specs.Nodes.{overflows}
 use Rattle.records.specs.Layout.{capacity}

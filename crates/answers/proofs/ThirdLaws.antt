@@ -1,6 +1,6 @@
 -- The third answer: `answer_3`. On the way: what a call reports, and what it rests on, by its contract.
 -- Assumes nothing.
-use Prim.Native.Nat.{ℕ, suc, ◌+◌, ◌≤◌}
+use Prim.Native.Nat.{ℕ}
 use native.Mathlib.Omega.{arith}
 use mathlib.Core.Path.{◌≡◌, refl, sym, ap, ◌∙◌}
 use mathlib.Core.Bool.{Bool, true, false}
@@ -32,13 +32,11 @@ use Rattle.listing.specs.Slicing as slicing
 use Rattle.listing.specs.Slicing.{Sliding}
 use Rattle.listing.specs.Resting.{slice_links}
 use Rattle.listing.specs.declared.Resume.{Resume}
-use Rattle.listing.specs.declared.Sliced.{Sliced}
 use Rattle.listing.proofs.SliceRestsLaws.{slice_on_rests}
 use Rattle.nalfipode.specs.Changes.{StoreOut, RemoveOut}
 use Rattle.nalfipode.specs.Reads.{FetchOut, LongestMatchOut}
 use Rattle.nalfipode.specs.Slices.{SliceOut}
 use Rattle.nalfipode.proofs.SinglesLaws.{alike}
-use Rattle.answers.specs.Made.{Made, Ready}
 use Rattle.answers.specs.Answers.{nodes_for, trail_for}
 use Rattle.answers.specs.Third.{Reports, Changes, WorkIsBounded}
 use Rattle.answers.proofs.MadeLaws.{made_holds}

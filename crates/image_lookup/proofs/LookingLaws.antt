@@ -3,7 +3,7 @@
 -- Assumes nothing.
 use Prim.Native.Nat.{ℕ, zero, suc, ◌+◌, ◌*◌, ◌^◌, ◌≤◌, ◌<◌}
 use native.Mathlib.Omega.{arith}
-use mathlib.Core.Path.{◌≡◌, refl, sym, ap, ◌∙◌}
+use mathlib.Core.Path.{◌≡◌, refl, sym, ap, subst, ◌∙◌}
 use mathlib.Core.Bool.{true, false, cond}
 use mathlib.Core.List.{List, [], ◌∷◌, Memᴰ}
 use mathlib.Core.Option.{Option, none, some, map}
@@ -90,7 +90,8 @@ module _ {bs : List ℕ} {m : Map} {epoch : ℕ} (h : IsImage size24 bs m epoch)
   walk_on_top (suc w) k z i l =
       let left : Trie = trie_at (is_fork (keys m)) (zone_at m) w (false ∷ []) in
       let right : Trie = trie_at (is_fork (keys m)) (zone_at m) w (true ∷ []) in
-      let has : Has (forks_of m) 0 (fork left right) = rw (forks_of-refs (suc w) m z i) (has-refs (trie_of (suc w) m)) in
+      let has : Has (forks_of m) 0 (fork left right) =
+      subst (λ (fs : List Fork). Has fs 0 (fork left right)) (sym (forks_of-refs (suc w) m z i)) (has-refs (trie_of (suc w) m)) in
       walk_on-fork 0 left right k has (length-forks_of_pos m) (omega (arith, depth-trie_of (suc w) m))
 
   -- "it is right for bytes the checker accepted"

@@ -120,6 +120,7 @@ module _ (bs : List ℕ) (small : T (all (λ b. ltb b 256) bs)) where
       let ends = frame_on-frame bs n end epoch small e in
       let w = entries_on-found bs end small ends.within (length bs) (6 * n + 16) 0 (and_left d (t && x) b) in
       accepted-tree n end epoch w.0 ends (T_true z (and_left z (d && (t && x)) a)) w.1 (and_left t x c) (and_right t x c)
+  accepted framed.Bad e h = elim h [ ]
 
   pub verify_on_yes : verify_on bs ≡ true → (m : Map) × ((epoch : ℕ) × IsImage size24 bs m epoch)
   unfolding verify_on

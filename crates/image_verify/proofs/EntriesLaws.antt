@@ -115,6 +115,7 @@ module _ (bs : List ℕ) (end : ℕ) where
           and_both (leb low z) (all (leb low) w.0) l
               (all_imp (leb (z + 1)) (leb low) (λ x i. le→leb low x (omega (arith, leb→le low z l, leb→le (z + 1) x i))) w.0 w.2),
         )
+    found_from f at low read.Bad e go h = elim h [ ]
 
     pub entries_on-found : (f at low : ℕ) → T (entries_on f bs at end low) → Found at low
     entries_on-found zero at low h = ([], entries_none at (eqb→eq at end h), tt)
@@ -164,3 +165,4 @@ module _ (bs : List ℕ) (end : ℕ) where
       go false e j ih =
           let w = ih j in
           (w.0, Memᴰ.tail w.1, w.2 ∙ rw (offset-tail y ys w.0 h.ascends w.1) (omega arith))
+  starts_at_true zero at zs p h k = elim k [ ]

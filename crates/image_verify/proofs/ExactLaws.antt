@@ -6,8 +6,8 @@ use native.Mathlib.Decide.{ℕ_discrete}
 use native.Mathlib.Omega.{arith}
 use mathlib.Core.Path.{◌≡◌, refl, sym, ◌∙◌, subst}
 use mathlib.Core.Bool.{Bool, true, false, cond}
-use mathlib.Core.List.{List, ◌∷◌, Memᴰ}
-use mathlib.Core.Option.{some}
+use mathlib.Core.List.{List, [], ◌∷◌, Memᴰ}
+use mathlib.Core.Option.{some, none}
 use lib.Dec.{T, eqb, eqb→eq}
 use lib.ListN.{length}
 use borrow.Author.Tests.{eqb-false, eqb-true}
@@ -35,6 +35,8 @@ agree_same false false e = refl
 agree_true : (a b : Bool) → T (agree a b) → a ≡ b
 agree_true true true h = refl
 agree_true false false h = refl
+agree_true false true h = elim h [ ]
+agree_true true false h = elim h [ ]
 
 module _ (bs : List ℕ) (n end : ℕ) where
   -- the byte p is meant by a record exactly if an entry starts there
@@ -74,6 +76,7 @@ offset_inj (x ∷ xs) y z i j e = go (eqb x y) (eqb x z) refl refl e (offset_inj
     go true false p q e ih = absurd (omega (arith, one_byte x))
     go false true p q e ih = absurd (omega (arith, one_byte x))
     go false false p q e ih = ih (tail y p i) (tail z q j) (omega arith)
+offset_inj [] y z i j e = elim i [ ]
 
 -- ---- the zone numbers that a tree uses
 
@@ -86,6 +89,8 @@ mem_used z fs i = let w = mem-zones_of z fs i in mem-any (used_by z) fs w.0 w.1 
 module _ (zs : List ℕ) (z : ℕ) where
   zoned-ref : (i : ℕ) (u : Trie) → Zoned zs u → T (uses z (ref i u)) → Memᴰ z zs
   zoned-ref i (leaf (some y)) h k = rw (eqb→eq z y k) h
+  zoned-ref i (leaf none) h k = elim k [ ]
+  zoned-ref i (fork _ _) h k = elim k [ ]
 
   -- each is in zs
   used-zoned : (i : ℕ) (t : Trie) → Zoned zs t → T (any (used_by z) (refs i t)) → Memᴰ z zs
@@ -97,6 +102,7 @@ module _ (zs : List ℕ) (z : ℕ) where
       go (at_right u) a b = zoned-ref (suc i + size l) r h.1 u
       go (below_left u) a b = a u
       go (below_right u) a b = b u
+  used-zoned i (leaf _) h k = elim k [ ]
 
 -- ---- exact_on
 

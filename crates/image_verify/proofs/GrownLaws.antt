@@ -182,6 +182,7 @@ module _ (bs : List ℕ) (n d : ℕ) (zs : List ℕ) (known : (k : ℕ) → k < 
         shallow = g.shallow;
         counts = omega (arith, g.counts, eqb→eq j n h);
       }
+  whole-tree f z numbered.Bad e h = elim h [ ]
 
   pub tree_on-tree : 0 < n → T (tree_on bs n d) → Tree bs n zs 128
   unfolding tree_on

@@ -46,6 +46,7 @@ zoned_used zs i (fork l r) f g = (
 
 zoned-zones_of : (t : Trie) → Whole t → Zoned (zones_of (refs 0 t)) t
 zoned-zones_of (fork l r) g = zoned_used (zones_of (refs 0 (fork l r))) 0 (fork l r) (λ z h. absurd h) (λ z h. used_mem z (refs 0 (fork l r)) h)
+zoned-zones_of (leaf _) g = elim g [ ]
 
 -- ---- verify_on
 

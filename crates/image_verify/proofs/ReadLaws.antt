@@ -137,7 +137,7 @@ module _ (bs : List ℕ) (at end : ℕ) (small : T (all (λ b. ltb b 256) bs)) (
       let rest = take-append-drop k (drop (at + 1) bs) in
       record {
         fits = lt_of_lt_of_le (number_at-lt bs (at + 1) k small) (pow-le-pow_right (lit< tt) {j = 4} few);
-        bytes = drop-cons bs at 0 (omega arith) ∙ cc (add-one at, drop-drop k (at + 1) bs, ap length same);
+        bytes = drop-cons bs at 0 (omega arith) ∙ cc (add-one at, drop-drop k (at + 1) bs);
         ends = omega (arith, ap length same);
         within = omega arith;
       }

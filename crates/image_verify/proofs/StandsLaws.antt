@@ -93,6 +93,7 @@ whole-stands : (bs : List ℕ) (n : ℕ) (zs : List ℕ) (f : ℕ) (t : Trie) �
     → whole n (below_on f bs n (length (data_of zs)) 0) ≡ true
 whole-stands bs n zs f (fork l r) g d e z s =
     rw (below-stands bs n zs f 0 (fork l r) d (omega arith) g z s) (eq-eqb (0 + suc (size l + size r)) n (omega arith))
+whole-stands bs n zs f (leaf _) g d e z s = elim g [ ]
 
 pub tree_on-stands : (bs : List ℕ) (n : ℕ) (zs : List ℕ) (t : Trie) → Whole t → depth t ≤ 128 → size t ≡ n → Zoned zs t → Stands bs n zs 0 t
     → tree_on bs n (length (data_of zs)) ≡ true

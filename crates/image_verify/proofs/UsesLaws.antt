@@ -27,6 +27,7 @@ among_first_true (suc k) bs r h =
       | inl e ↦ (k, omega arith, eqb→eq (record_no bs k) r e)
       | inr i ↦ let w = among_first_true k bs r i in (w.0, omega (arith, w.1), w.2)
     ]
+among_first_true zero bs r h = elim h [ ]
 
 record-among_first : (k : ℕ) (bs : List ℕ) (r j : ℕ) → j < k → record_no bs j ≡ r → T (among_first k bs r)
 record-among_first zero bs r j h e = absurd (omega arith)
@@ -52,6 +53,8 @@ module _ (n : ℕ) (zs : List ℕ) where
 
   uses-ref : (j z : ℕ) (u : Trie) → T (uses z (ref j u)) → record_of n zs (ref j u) ≡ n + 16 + offset zs z
   uses-ref j z (leaf (some y)) h = rw (eqb→eq z y h)
+  uses-ref j z (leaf none) h = elim h [ ]
+  uses-ref j z (fork _ _) h = elim h [ ]
 
 -- ---- the zone numbers that a fork and the parts below it use
 
@@ -151,6 +154,7 @@ module _ (bs : List ℕ) (n : ℕ) (zs : List ℕ) where
       at (at_right u) hl hr = (2 * i + 1, omega arith, s.1 ∙ uses-ref n zs (suc i + size l) z r u)
       at (below_left u) hl hr = let w = hl u in (w.0, omega (arith, w.1), w.2)
       at (below_right u) hl hr = let w = hr u in (w.0, omega (arith, w.1), w.2)
+  used-stands z i (leaf _) s h = elim h [ ]
 
   -- ---- uses_on
 

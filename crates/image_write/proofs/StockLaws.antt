@@ -15,7 +15,6 @@ use Rattle.image_data.specs.Runs.{length_of, DataAt}
 use Rattle.image_data.specs.declared.Runs.{Runs}
 use Rattle.image_data.proofs.RunsLaws.{length-data_of-runs}
 use Rattle.image_write.specs.Planting.{Stocked, Here}
-use Rattle.image_write.proofs.PartLaws as part
 use borrow.Author.Tests.{eq-eqb, ne_eqb}
 use Rattle.image_data.specs.Runs.{Offset}
 

@@ -46,6 +46,8 @@ small-zone ws w a z e = at (odd (record_at ws a).tag) e
 
 small-own : (ws : List ℕ) → Machine ws → (a : ℕ) (s : Bits) (v : Option ℕ) → zone_of (record_at ws a) ≡ v → (e : Entry) → Memᴰ e (own s v) → e.zone < 2 ^ 32
 small-own ws w a s (some z) b e (Memᴰ.head q) = rw q (small-zone ws w a z b)
+small-own ws w a s none b e absent = elim absent [ ]
+small-own ws w a s (some z) b e (Memᴰ.tail x7) = elim x7 [ ]
 
 small-entries : (ws : List ℕ) → Machine ws → (l : ℕ) (t : Tree ℕ) → Linked (record_at ws) l t → (e : Entry) → Memᴰ e (entries t) → e.zone < 2 ^ 32
 small-entries ws w l tip h e i = absurd (Memᴰ.not-nil i)

@@ -8,8 +8,7 @@ use crate::Five;
 use ground::Located;
 
 // Values: the four key words and the width.
-#[unsafe(no_mangle)]
-pub extern "C" fn nalfipode_cell(longitude: i32, latitude: i32, values: &mut [u32; 5]) -> u32
+pub fn nalfipode_cell(longitude: i32, latitude: i32, values: &mut [u32; 5]) -> u32
     ensures { CellOut longitude latitude result values.new }
 {
     let v = located(ground::cell(longitude, latitude));

@@ -13,8 +13,7 @@ use edits::{Freshened, Removal, Stored};
 // ---- fresh
 
 // It has no values.
-#[unsafe(no_mangle)]
-pub extern "C" fn nalfipode_fresh(table: &mut [u32]) -> u32
+pub fn nalfipode_fresh(table: &mut [u32]) -> u32
     ensures { FreshOut table.old result table.new }
 {
     freshened(edits::fresh(table))
@@ -33,8 +32,7 @@ fn freshened(x: Freshened) -> u32
 
 // Values: how many nodes the path has, 1 where a number was replaced and 0 where not, the old
 // number.
-#[unsafe(no_mangle)]
-pub extern "C" fn nalfipode_store(
+pub fn nalfipode_store(
     table: &mut [u32],
     width: u32,
     key: &[u32; 4],
@@ -69,8 +67,7 @@ fn stored(x: Stored) -> Three
 // ---- remove
 
 // Values: how many nodes the path has, the number taken out.
-#[unsafe(no_mangle)]
-pub extern "C" fn nalfipode_remove(
+pub fn nalfipode_remove(
     table: &mut [u32],
     width: u32,
     key: &[u32; 4],

@@ -8,8 +8,7 @@ use crate::One;
 use audit::Audited;
 
 // Value: 1 for yes.
-#[unsafe(no_mangle)]
-pub extern "C" fn nalfipode_audit(table: &[u32], values: &mut [u32; 1]) -> u32
+pub fn nalfipode_audit(table: &[u32], values: &mut [u32; 1]) -> u32
     ensures { AuditOut table.now result values.new }
 {
     let v = audited(audit::audit(table));

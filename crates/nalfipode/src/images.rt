@@ -15,8 +15,7 @@ use image_write::Written;
 // ---- write
 
 // Value: the length written, or where the output is too short the length needed.
-#[unsafe(no_mangle)]
-pub extern "C" fn nalfipode_image_write(
+pub fn nalfipode_image_write(
     table: &[u32],
     epoch: u64,
     out: &mut [u8],
@@ -43,8 +42,7 @@ fn written(x: Written) -> Long
 // ---- verify
 
 // It has no values: 0 is yes.
-#[unsafe(no_mangle)]
-pub extern "C" fn nalfipode_image_verify(bytes: &[u8]) -> u32
+pub fn nalfipode_image_verify(bytes: &[u8]) -> u32
     ensures { VerifyOut bytes.now result }
 {
     verified(image_verify::verify(bytes))
@@ -62,8 +60,7 @@ fn verified(x: Verified) -> u32
 // ---- describe
 
 // Values: nodes, data entries, epoch. Of use for bytes that the checker accepts.
-#[unsafe(no_mangle)]
-pub extern "C" fn nalfipode_image_describe(bytes: &[u8], values: &mut [u64; 3]) -> u32
+pub fn nalfipode_image_describe(bytes: &[u8], values: &mut [u64; 3]) -> u32
     ensures { DescribeOut bytes.now result values.new }
 {
     let v = described(image_verify::describe(bytes));
@@ -83,8 +80,7 @@ fn described(x: Described) -> Facts
 // ---- look
 
 // Values: 1 for a zone and 0 for none, its number.
-#[unsafe(no_mangle)]
-pub extern "C" fn nalfipode_image_look(bytes: &[u8], key: &[u32; 4], values: &mut [u32; 2]) -> u32
+pub fn nalfipode_image_look(bytes: &[u8], key: &[u32; 4], values: &mut [u32; 2]) -> u32
     ensures { LookOut bytes.now key.now result values.new }
 {
     let x = image_lookup::look(bytes, key[0], key[1], key[2], key[3]);

@@ -12,8 +12,7 @@ use lookup::{Fetched, Matched};
 // ---- fetch
 
 // Values: how many nodes the path has, the stored number.
-#[unsafe(no_mangle)]
-pub extern "C" fn nalfipode_fetch(
+pub fn nalfipode_fetch(
     table: &[u32],
     width: u32,
     key: &[u32; 4],
@@ -46,8 +45,7 @@ fn fetched(x: Fetched) -> Two
 // ---- longest match
 
 // Values: how many nodes the path has, 1 for a match and 0 for none, its width, its number.
-#[unsafe(no_mangle)]
-pub extern "C" fn nalfipode_longest_match(
+pub fn nalfipode_longest_match(
     table: &[u32],
     width: u32,
     key: &[u32; 4],

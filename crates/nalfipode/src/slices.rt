@@ -10,8 +10,7 @@ use listing::{Resume, Sliced};
 
 // Resumes after the key where `resume` is not 0, else starts at the first prefix. Values: how many
 // prefixes were given, 1 if more remain, the count.
-#[unsafe(no_mangle)]
-pub extern "C" fn nalfipode_slice(
+pub fn nalfipode_slice(
     table: &[u32],
     resume: u32,
     width: u32,

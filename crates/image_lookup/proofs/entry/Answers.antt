@@ -9,7 +9,7 @@ pub returns-then-bytes-at : goal.returns-then-bytes-at
 returns-then-bytes-at c = entry_on_past _ _ (search rules)
 
 pub overflow_cast-control : goal.overflow_cast-control
-overflow_cast-control c = omega (arith, c.shared_slice_known-2-1.given c.args.at)
+overflow_cast-control c = omega (arith, c.type_inv.bytes c.args.at)
 
 pub returns-then-control-lt192 : goal.returns-then-control-lt192
 returns-then-control-lt192 c = entry_on_low _ _ (search rules)

@@ -1,15 +1,12 @@
 -- `image_lookup::follow` meets its contract. The loop's invariant: the walk by the bits left, from the node
 -- here, is the walk from the start. The measure is the bits left.
 -- Assumes nothing.
-use Prim.Native.Nat.{◌+◌, ◌-◌, ◌*◌, ◌/◌, ◌^◌, ◌≤◌}
+use Prim.Native.Nat.{◌-◌, ◌/◌, ◌^◌}
 use native.Mathlib.Nat.{mod-lt}
 use native.Mathlib.Omega.{arith}
-use mathlib.Core.Path.{◌≡◌, refl, ◌∙◌}
+use mathlib.Core.Path.{refl, ◌∙◌}
 use lib.Dec.{lit<}
-use lib.ListN.{length}
 use borrow.Author.Rules.{rules}
-use Rattle.bits.specs.Numbers.{bits_of}
-use Rattle.image_lookup.specs.Following.{follow_on}
 use Rattle.image_lookup.proofs.ReadingLaws.{follow_on_next, follow_on-stop, follow_on_end}
 use Rattle.image_lookup.proofs.follow.Goals as goal
 
