@@ -8,84 +8,90 @@
 use image_lookup::Looked;
 use image_verify::Verified;
 use image_write::Written;
-use libc::STDOUT_FILENO;
 use prefix::Prefix;
+use std::io;
 
 const TOP: u32 = 0x8000_0000;
 
-fn main() {
-    example();
-    set_a();
+fn main(rt: HostRuntime) -> io::Result<()> {
+    example(&rt)?;
+    set_a(&rt)?;
+    Ok(())
 }
 
 // "one prefix, bit 0, zone 5, epoch 0"
-fn example() {
+fn example(rt: &impl Print) -> io::Result<()> {
     let mut space = [0u32; 16];
     let table: &mut [u32] = &mut space;
     edits::fresh(table);
     store(table, of(1, 0), 5);
-    say(b"0 -> 5, epoch 0\n");
-    tried(table, 0);
+    say(rt, "0 -> 5, epoch 0\n")?;
+    tried(rt, table, 0)?;
+    Ok(())
 }
 
 // 00 -> 10, 01 -> 20, 0110 -> 30
-fn set_a() {
+fn set_a(rt: &impl Print) -> io::Result<()> {
     let mut space = [0u32; 72];
     let table: &mut [u32] = &mut space;
     edits::fresh(table);
     store(table, of(2, 0), 10);
     store(table, of(2, TOP / 2), 20);
     store(table, of(4, 0x6000_0000), 30);
-    say(b"set A, epoch 1700000000\n");
-    tried(table, 1_700_000_000);
+    say(rt, "set A, epoch 1700000000\n")?;
+    tried(rt, table, 1_700_000_000)?;
+    Ok(())
 }
 
 // The image of the table, as it is and changed.
-fn tried(table: &[u32], epoch: u64) {
+fn tried(rt: &impl Print, table: &[u32], epoch: u64) -> io::Result<()> {
     let mut space = [0u8; 256];
     let image: &mut [u8] = &mut space;
     match image_write::write(table, epoch, image) {
         Written::Wrote(n) => {
             if n < image.len() {
-                asked(&image[..n]);
-                cut(image, n);
-                changed(&mut image[..n]);
+                asked(rt, &image[..n])?;
+                cut(rt, image, n)?;
+                changed(rt, &mut image[..n])?;
             }
+            Ok(())
         }
-        _ => say(b"not written\n"),
+        _ => say(rt, "not written\n"),
     }
 }
 
 // ---- accepted
 
-fn asked(image: &[u8]) {
-    say(b"whole: ");
-    verdict(image);
-    look(b"0000..", image, 0, 0);
-    look(b"0011..", image, 0x3fff_ffff, 0xffff_ffff);
-    look(b"0100..", image, 0x4000_0000, 0);
-    look(b"0110..", image, 0x6123_4567, 0);
-    look(b"0111..", image, 0x7fff_ffff, 0xffff_ffff);
-    look(b"1000..", image, TOP, 0);
-    look(b"1111..", image, 0xffff_ffff, 0xffff_ffff);
+fn asked(rt: &impl Print, image: &[u8]) -> io::Result<()> {
+    say(rt, "whole: ")?;
+    verdict(rt, image)?;
+    look(rt, "0000..", image, 0, 0)?;
+    look(rt, "0011..", image, 0x3fff_ffff, 0xffff_ffff)?;
+    look(rt, "0100..", image, 0x4000_0000, 0)?;
+    look(rt, "0110..", image, 0x6123_4567, 0)?;
+    look(rt, "0111..", image, 0x7fff_ffff, 0xffff_ffff)?;
+    look(rt, "1000..", image, TOP, 0)?;
+    look(rt, "1111..", image, 0xffff_ffff, 0xffff_ffff)?;
+    Ok(())
 }
 
-fn look(text: &[u8], image: &[u8], w0: u32, rest: u32) {
-    say(text);
+fn look(rt: &impl Print, text: &str, image: &[u8], w0: u32, rest: u32) -> io::Result<()> {
+    say(rt, text)?;
     match image_lookup::look(image, w0, rest, rest, rest) {
         Looked::Zone(z) => {
-            say(b": zone ");
-            number(z as u64);
+            say(rt, ": zone ")?;
+            number(rt, z as u64)?;
         }
-        Looked::NoData => say(b": no data"),
-        Looked::BadImage => say(b": BadImage"),
+        Looked::NoData => say(rt, ": no data")?,
+        Looked::BadImage => say(rt, ": BadImage")?,
     }
-    say(b"\n");
+    say(rt, "\n")?;
+    Ok(())
 }
 
 // ---- too short, too long
 
-fn cut(image: &[u8], n: usize) {
+fn cut(rt: &impl Print, image: &[u8], n: usize) -> io::Result<()> {
     let mut yes: u64 = 0;
     let mut i: usize = 0;
     while i < n {
@@ -94,35 +100,37 @@ fn cut(image: &[u8], n: usize) {
         }
         i += 1;
     }
-    say(b"shorter ones accepted: ");
-    number(yes);
-    say(b"\none byte longer: ");
+    say(rt, "shorter ones accepted: ")?;
+    number(rt, yes)?;
+    say(rt, "\none byte longer: ")?;
     if n < image.len() {
-        verdict(&image[..n + 1]);
+        verdict(rt, &image[..n + 1])?;
     }
-    say(b"one byte off the front: ");
+    say(rt, "one byte off the front: ")?;
     if 0 < n {
         if n <= image.len() {
-            verdict(&image[1..n]);
+            verdict(rt, &image[1..n])?;
         }
     }
+    Ok(())
 }
 
 // ---- one byte changed
 
-fn changed(image: &mut [u8]) {
+fn changed(rt: &impl Print, image: &mut [u8]) -> io::Result<()> {
     let mut i: usize = 0;
     while i < image.len() {
         let yes = others(image, i);
         if yes != 0 {
-            say(b"byte ");
-            number(i as u64);
-            say(b": other values accepted: ");
-            number(yes);
-            say(b"\n");
+            say(rt, "byte ")?;
+            number(rt, i as u64)?;
+            say(rt, ": other values accepted: ")?;
+            number(rt, yes)?;
+            say(rt, "\n")?;
         }
         i += 1;
     }
+    Ok(())
 }
 
 // How many other values of the byte i are accepted.
@@ -154,17 +162,17 @@ fn next(v: u8) -> u8 {
 // One more where the bytes are accepted.
 fn counted(yes: u64, bytes: &[u8]) -> u64 {
     match image_verify::verify(bytes) {
-        Verified::Yes => std::num::wrapping_add_u64(yes, 1),
+        Verified::Yes => yes.wrapping_add(1),
         Verified::BadImage => yes,
     }
 }
 
 // ---- printing
 
-fn verdict(bytes: &[u8]) {
+fn verdict(rt: &impl Print, bytes: &[u8]) -> io::Result<()> {
     match image_verify::verify(bytes) {
-        Verified::Yes => say(b"accepted\n"),
-        Verified::BadImage => say(b"BadImage\n"),
+        Verified::Yes => say(rt, "accepted\n"),
+        Verified::BadImage => say(rt, "BadImage\n"),
     }
 }
 
@@ -184,10 +192,10 @@ fn of(width: u32, w0: u32) -> Prefix {
     }
 }
 
-fn number(n: u64) {
-    io::print_decimal(STDOUT_FILENO, n);
+fn number(rt: &impl Print, n: u64) -> io::Result<()> {
+    rt.print(n)
 }
 
-fn say(text: &[u8]) {
-    io::write_all(STDOUT_FILENO, text);
+fn say(rt: &impl Print, text: &str) -> io::Result<()> {
+    rt.print(text)
 }

@@ -5,10 +5,9 @@
 #![tactic(auto)]
 
 use edits::{Removal, Stored};
-use libc::STDOUT_FILENO;
 use lookup::{Fetched, Matched};
 use prefix::Prefix;
-use std::num::wrapping_add_u32;
+use std::io;
 
 // 64 records, and keys of at most 7 bits: 255 of them.
 const WORDS: usize = 520;
@@ -28,18 +27,19 @@ struct Tally {
     other: u32,
 }
 
-fn main() {
+fn main(rt: HostRuntime) -> io::Result<()> {
     let mut old = [0u32; WORDS];
     let mut new = [0u32; WORDS];
     edits::fresh(&mut old);
     edits::fresh(&mut new);
     let t = age(&mut old);
-    report(t);
+    report(&rt, t)?;
     let stored = rebuild(&old, &mut new);
     let same = compare(&old, &new);
-    line(b"stored now: ", stored);
-    line(b"paths compared: ", 255);
-    line(b"paths that are equal: ", same);
+    line(&rt, "stored now: ", stored)?;
+    line(&rt, "paths compared: ", 255)?;
+    line(&rt, "paths that are equal: ", same)?;
+    Ok(())
 }
 
 // ---- the edits
@@ -79,16 +79,16 @@ fn stored(t: Tally, table: &mut [u32], k: Prefix, zone: u32) -> Tally {
     let mut u = t;
     match edits::store(table, k, zone, &mut trail) {
         Stored::Added(_) => {
-            u.added = wrapping_add_u32(u.added, 1);
+            u.added = u.added.wrapping_add(1);
         }
         Stored::Replaced(_, _) => {
-            u.replaced = wrapping_add_u32(u.replaced, 1);
+            u.replaced = u.replaced.wrapping_add(1);
         }
         Stored::Full(_) => {
-            u.full = wrapping_add_u32(u.full, 1);
+            u.full = u.full.wrapping_add(1);
         }
         _ => {
-            u.other = wrapping_add_u32(u.other, 1);
+            u.other = u.other.wrapping_add(1);
         }
     }
     u
@@ -99,13 +99,13 @@ fn removed(t: Tally, table: &mut [u32], k: Prefix) -> Tally {
     let mut u = t;
     match edits::remove(table, k, &mut trail) {
         Removal::Removed(_, _) => {
-            u.removed = wrapping_add_u32(u.removed, 1);
+            u.removed = u.removed.wrapping_add(1);
         }
         Removal::Absent(_) => {
-            u.absent = wrapping_add_u32(u.absent, 1);
+            u.absent = u.absent.wrapping_add(1);
         }
         _ => {
-            u.other = wrapping_add_u32(u.other, 1);
+            u.other = u.other.wrapping_add(1);
         }
     }
     u
@@ -143,7 +143,7 @@ fn rebuild(old: &[u32], new: &mut [u32]) -> u32 {
     let mut n: u32 = 0;
     let mut i: u32 = 1;
     while i < 256 {
-        n = wrapping_add_u32(n, copied(old, new, nth(i)));
+        n = n.wrapping_add(copied(old, new, nth(i)));
         i += 1;
     }
     n
@@ -165,7 +165,7 @@ fn compare(old: &[u32], new: &[u32]) -> u32 {
     let mut n: u32 = 0;
     let mut i: u32 = 1;
     while i < 256 {
-        n = wrapping_add_u32(n, same_path(old, new, nth(i)));
+        n = n.wrapping_add(same_path(old, new, nth(i)));
         i += 1;
     }
     n
@@ -207,7 +207,7 @@ fn same_path(old: &[u32], new: &[u32], k: Prefix) -> u32 {
     let mut two = [0u8; 129];
     let a = lookup::longest_match(old, k, &mut one);
     let b = lookup::longest_match(new, k, &mut two);
-    if same_answer(a, b) & check::same(&one, &two) {
+    if same_answer(a, b) & (one == two) {
         return 1;
     }
     0
@@ -229,18 +229,17 @@ fn same_answer(a: Matched, b: Matched) -> bool {
 
 // ---- printing
 
-fn report(t: Tally) {
-    line(b"edits: ", EDITS);
-    line(b"added: ", t.added);
-    line(b"replaced: ", t.replaced);
-    line(b"full: ", t.full);
-    line(b"removed: ", t.removed);
-    line(b"absent: ", t.absent);
-    line(b"other: ", t.other);
+fn report(rt: &impl Print, t: Tally) -> io::Result<()> {
+    line(rt, "edits: ", EDITS)?;
+    line(rt, "added: ", t.added)?;
+    line(rt, "replaced: ", t.replaced)?;
+    line(rt, "full: ", t.full)?;
+    line(rt, "removed: ", t.removed)?;
+    line(rt, "absent: ", t.absent)?;
+    line(rt, "other: ", t.other)?;
+    Ok(())
 }
 
-fn line(text: &[u8], n: u32) {
-    io::write_all(STDOUT_FILENO, text);
-    io::print_decimal(STDOUT_FILENO, n as u64);
-    io::write_all(STDOUT_FILENO, b"\n");
+fn line(rt: &impl Print, text: &str, n: u32) -> io::Result<()> {
+    println!(rt; "{text}{n}")
 }

@@ -9,14 +9,16 @@ mod printing; // keys, numbers and text
 
 use cells::{cells_around_zero, cells_at_ends, cells_outside};
 use keys::{bits_after, bits_at, cuts, pairs, widths};
+use std::io;
 
-fn main() {
-    widths();
-    bits_after();
-    bits_at();
-    pairs();
-    cuts();
-    cells_at_ends();
-    cells_around_zero();
-    cells_outside();
+fn main(rt: HostRuntime) -> io::Result<()> {
+    widths(&rt)?;
+    bits_after(&rt)?;
+    bits_at(&rt)?;
+    pairs(&rt)?;
+    cuts(&rt)?;
+    cells_at_ends(&rt)?;
+    cells_around_zero(&rt)?;
+    cells_outside(&rt)?;
+    Ok(())
 }

@@ -1,24 +1,25 @@
 // Printing: keys, numbers and text.
-use libc::STDOUT_FILENO;
 use prefix::Prefix;
+use std::io;
 
-pub(crate) fn show(p: Prefix) {
-    word(p.w0);
-    word(p.w1);
-    word(p.w2);
-    word(p.w3);
-    say(b"/");
-    number(p.width);
+pub(crate) fn show(rt: &impl Print, p: Prefix) -> io::Result<()> {
+    word(rt, p.w0)?;
+    word(rt, p.w1)?;
+    word(rt, p.w2)?;
+    word(rt, p.w3)?;
+    say(rt, "/")?;
+    number(rt, p.width)?;
+    Ok(())
 }
 
-fn word(x: u32) {
-    io::print_hex(STDOUT_FILENO, x as u64, 8);
+fn word(rt: &impl Print, x: u32) -> io::Result<()> {
+    print!(rt; "{x:08x}")
 }
 
-pub(crate) fn number(n: u32) {
-    io::print_decimal(STDOUT_FILENO, n as u64);
+pub(crate) fn number(rt: &impl Print, n: u32) -> io::Result<()> {
+    rt.print(n)
 }
 
-pub(crate) fn say(text: &[u8]) {
-    io::write_all(STDOUT_FILENO, text);
+pub(crate) fn say(rt: &impl Print, text: &str) -> io::Result<()> {
+    rt.print(text)
 }

@@ -6,20 +6,21 @@
 
 ghost use Rattle.std.specs.Prelude.{◌≡◌, length};
 
-use libc::STDOUT_FILENO;
 use listing::{Resume, Sliced};
 use prefix::Prefix;
+use std::io;
 
 const TOP: u32 = 0x8000_0000;
 
-fn main() {
+fn main(rt: HostRuntime) -> io::Result<()> {
     let mut table = [0u32; 72];
     set_a(&mut table);
-    m9(&table);
-    resumes(&table);
-    sizes(&table);
-    widest(&table);
-    changing(&mut table);
+    m9(&rt, &table)?;
+    resumes(&rt, &table)?;
+    sizes(&rt, &table)?;
+    widest(&rt, &table)?;
+    changing(&rt, &mut table)?;
+    Ok(())
 }
 
 // 00 -> 10, 01 -> 20, 0110 -> 30
@@ -30,44 +31,55 @@ fn set_a(table: &mut [u32]) {
     store(table, of(4, 0x6000_0000), 30);
 }
 
-fn m9(table: &[u32]) {
-    slice(b"2 from the start", table, Resume::Start, 2);
-    slice(b"2 after 01", table, after(2, TOP / 2), 2);
+fn m9(rt: &impl Print, table: &[u32]) -> io::Result<()> {
+    slice(rt, "2 from the start", table, Resume::Start, 2)?;
+    slice(rt, "2 after 01", table, after(2, TOP / 2), 2)?;
+    Ok(())
 }
 
-fn resumes(table: &[u32]) {
-    slice(b"2 after 011, not stored", table, after(3, 0x6000_0000), 2);
+fn resumes(rt: &impl Print, table: &[u32]) -> io::Result<()> {
     slice(
-        b"2 after 01101, wider than all",
+        rt,
+        "2 after 011, not stored",
+        table,
+        after(3, 0x6000_0000),
+        2,
+    )?;
+    slice(
+        rt,
+        "2 after 01101, wider than all",
         table,
         after(5, 0x6800_0000),
         2,
-    );
-    slice(b"2 after 1, after all", table, after(1, TOP), 2);
-    slice(b"4 after the empty prefix", table, after(0, 0), 4);
-    slice(b"2 after a bad prefix", table, after(0, 1), 2);
-    slice(b"2 after a prefix of width 129", table, after(129, 0), 2);
+    )?;
+    slice(rt, "2 after 1, after all", table, after(1, TOP), 2)?;
+    slice(rt, "4 after the empty prefix", table, after(0, 0), 4)?;
+    slice(rt, "2 after a bad prefix", table, after(0, 1), 2)?;
+    slice(rt, "2 after a prefix of width 129", table, after(129, 0), 2)?;
+    Ok(())
 }
 
-fn sizes(table: &[u32]) {
-    slice(b"0", table, Resume::Start, 0);
-    slice(b"1", table, Resume::Start, 1);
-    slice(b"4", table, Resume::Start, 4);
-    slice(b"5, with room for 4", table, Resume::Start, 5);
-    slice(b"4097", table, Resume::Start, 4097);
+fn sizes(rt: &impl Print, table: &[u32]) -> io::Result<()> {
+    slice(rt, "0", table, Resume::Start, 0)?;
+    slice(rt, "1", table, Resume::Start, 1)?;
+    slice(rt, "4", table, Resume::Start, 4)?;
+    slice(rt, "5, with room for 4", table, Resume::Start, 5)?;
+    slice(rt, "4097", table, Resume::Start, 4097)?;
     let mut short = [0u32; 23];
-    say(b"slice of 4, one word short");
-    answered(listing::slice(table, Resume::Start, 4, &mut short));
+    say(rt, "slice of 4, one word short")?;
+    answered(rt, listing::slice(table, Resume::Start, 4, &mut short))?;
     let small = [0u32; 15];
     let mut out = [0u32; 6];
-    say(b"slice of 15 words");
-    answered(listing::slice(&small, Resume::Start, 1, &mut out));
+    say(rt, "slice of 15 words")?;
+    answered(rt, listing::slice(&small, Resume::Start, 1, &mut out))?;
+    Ok(())
 }
 
-fn widest(table: &[u32]) {
+fn widest(rt: &impl Print, table: &[u32]) -> io::Result<()> {
     let mut out = room();
-    say(b"slice of 4096");
-    answered(listing::slice(table, Resume::Start, 4096, &mut out));
+    say(rt, "slice of 4096")?;
+    answered(rt, listing::slice(table, Resume::Start, 4096, &mut out))?;
+    Ok(())
 }
 
 fn room() -> [u32; 24_576]
@@ -77,12 +89,13 @@ fn room() -> [u32; 24_576]
 }
 
 // Slices of 1 over a table whose prefixes are removed and added between them.
-fn changing(table: &mut [u32]) {
-    slice(b"1 from the start", table, Resume::Start, 1);
+fn changing(rt: &impl Print, table: &mut [u32]) -> io::Result<()> {
+    slice(rt, "1 from the start", table, Resume::Start, 1)?;
     exchange(table);
-    two_more(table);
+    two_more(rt, table)?;
     remove(table, of(4, 0x6000_0000));
-    last_two(table);
+    last_two(rt, table)?;
+    Ok(())
 }
 
 fn exchange(table: &mut [u32]) {
@@ -90,85 +103,91 @@ fn exchange(table: &mut [u32]) {
     store(table, of(2, TOP), 40);
 }
 
-fn two_more(table: &[u32]) {
+fn two_more(rt: &impl Print, table: &[u32]) -> io::Result<()> {
     slice(
-        b"1 after 00, which is gone, with 10 new",
+        rt,
+        "1 after 00, which is gone, with 10 new",
         table,
         after(2, 0),
         1,
-    );
-    slice(b"1 after 01", table, after(2, TOP / 2), 1);
+    )?;
+    slice(rt, "1 after 01", table, after(2, TOP / 2), 1)?;
+    Ok(())
 }
 
-fn last_two(table: &[u32]) {
+fn last_two(rt: &impl Print, table: &[u32]) -> io::Result<()> {
     slice(
-        b"1 after 0110, which is gone",
+        rt,
+        "1 after 0110, which is gone",
         table,
         after(4, 0x6000_0000),
         1,
-    );
-    slice(b"1 after 10", table, after(2, TOP), 1);
+    )?;
+    slice(rt, "1 after 10", table, after(2, TOP), 1)?;
+    Ok(())
 }
 
 // ---- one call, and a line
 
-fn slice(text: &[u8], table: &[u32], resume: Resume, size: u32) {
+fn slice(rt: &impl Print, text: &str, table: &[u32], resume: Resume, size: u32) -> io::Result<()> {
     let mut out = [0u32; 24];
-    say(b"slice of ");
-    say(text);
+    say(rt, "slice of ")?;
+    say(rt, text)?;
     let r = listing::slice(table, resume, size, &mut out);
-    answered(r);
+    answered(rt, r)?;
     match r {
-        Sliced::Given(n, _, _) => entries(&out, n),
-        _ => {}
+        Sliced::Given(n, _, _) => entries(rt, &out, n),
+        _ => Ok(()),
     }
 }
 
-fn answered(r: Sliced) {
+fn answered(rt: &impl Print, r: Sliced) -> io::Result<()> {
     match r {
         Sliced::Given(n, more, c) => {
-            say(b": gives ");
-            number(n);
+            say(rt, ": gives ")?;
+            number(rt, n)?;
             if more {
-                say(b", more, count ");
+                say(rt, ", more, count ")?;
             } else {
-                say(b", no more, count ");
+                say(rt, ", no more, count ")?;
             }
-            number(c);
-            say(b"\n");
+            number(rt, c)?;
+            say(rt, "\n")
         }
-        Sliced::BadLength => say(b": BadLength\n"),
-        Sliced::BadPrefix => say(b": BadPrefix\n"),
-        Sliced::BadSize => say(b": BadSize\n"),
-        Sliced::ShortOut => say(b": ShortOut\n"),
-        Sliced::Damaged => say(b": Damaged\n"),
+        Sliced::BadLength => say(rt, ": BadLength\n"),
+        Sliced::BadPrefix => say(rt, ": BadPrefix\n"),
+        Sliced::BadSize => say(rt, ": BadSize\n"),
+        Sliced::ShortOut => say(rt, ": ShortOut\n"),
+        Sliced::Damaged => say(rt, ": Damaged\n"),
     }
 }
 
 // The first n entries, of at most 4.
-fn entries(out: &[u32; 24], n: u32) {
+fn entries(rt: &impl Print, out: &[u32; 24], n: u32) -> io::Result<()> {
     if 0 < n {
-        entry(out[0], out[4], out[5]);
+        entry(rt, out[0], out[4], out[5])?;
     }
     if 1 < n {
-        entry(out[6], out[10], out[11]);
+        entry(rt, out[6], out[10], out[11])?;
     }
     if 2 < n {
-        entry(out[12], out[16], out[17]);
+        entry(rt, out[12], out[16], out[17])?;
     }
     if 3 < n {
-        entry(out[18], out[22], out[23]);
+        entry(rt, out[18], out[22], out[23])?;
     }
+    Ok(())
 }
 
-fn entry(w0: u32, width: u32, zone: u32) {
-    say(b"  ");
-    io::print_hex(STDOUT_FILENO, w0 as u64, 8);
-    say(b"/");
-    number(width);
-    say(b" -> ");
-    number(zone);
-    say(b"\n");
+fn entry(rt: &impl Print, w0: u32, width: u32, zone: u32) -> io::Result<()> {
+    say(rt, "  ")?;
+    print!(rt; "{w0:08x}")?;
+    say(rt, "/")?;
+    number(rt, width)?;
+    say(rt, " -> ")?;
+    number(rt, zone)?;
+    say(rt, "\n")?;
+    Ok(())
 }
 
 fn store(table: &mut [u32], k: Prefix, zone: u32) {
@@ -197,10 +216,10 @@ fn of(width: u32, w0: u32) -> Prefix {
     }
 }
 
-fn number(n: u32) {
-    io::print_decimal(STDOUT_FILENO, n as u64);
+fn number(rt: &impl Print, n: u32) -> io::Result<()> {
+    rt.print(n)
 }
 
-fn say(text: &[u8]) {
-    io::write_all(STDOUT_FILENO, text);
+fn say(rt: &impl Print, text: &str) -> io::Result<()> {
+    rt.print(text)
 }

@@ -11,41 +11,46 @@ ghost use Rattle.std.specs.Prelude.{◌≡◌, length};
 
 use calls::{answer, fetch, longest, made, remove, store};
 use prefix::Prefix;
+use std::io;
 
 const TOP: u32 = 0x8000_0000;
 
-fn main() {
-    lengths();
-    set_a();
-    m7();
-    m8();
-    freed_room();
-    refusals();
+fn main(rt: HostRuntime) -> io::Result<()> {
+    lengths(&rt)?;
+    set_a(&rt)?;
+    m7(&rt)?;
+    m8(&rt)?;
+    freed_room(&rt)?;
+    refusals(&rt)?;
+    Ok(())
 }
 
 // ---- the lengths of a table
 
-fn lengths() {
+fn lengths(rt: &impl Print) -> io::Result<()> {
     let mut fifteen = [0u32; 15];
     let mut sixteen = [0u32; 16];
     let mut twenty = [0u32; 20];
     let mut two = [0u32; 24];
-    made(b"15 words", &mut fifteen);
-    made(b"16 words", &mut sixteen);
-    made(b"20 words", &mut twenty);
-    made(b"24 words", &mut two);
-    most();
-    beyond();
+    made(rt, "15 words", &mut fifteen)?;
+    made(rt, "16 words", &mut sixteen)?;
+    made(rt, "20 words", &mut twenty)?;
+    made(rt, "24 words", &mut two)?;
+    most(rt)?;
+    beyond(rt)?;
+    Ok(())
 }
 
-fn most() {
+fn most(rt: &impl Print) -> io::Result<()> {
     let mut space = largest();
-    made(b"524288 words", &mut space);
+    made(rt, "524288 words", &mut space)?;
+    Ok(())
 }
 
-fn beyond() {
+fn beyond(rt: &impl Print) -> io::Result<()> {
     let mut space = larger();
-    made(b"524296 words", &mut space);
+    made(rt, "524296 words", &mut space)?;
+    Ok(())
 }
 
 fn largest() -> [u32; 524_288]
@@ -62,108 +67,117 @@ fn larger() -> [u32; 524_296]
 
 // ---- set A: 00 -> 10, 01 -> 20, 0110 -> 30
 
-fn set_a() {
+fn set_a(rt: &impl Print) -> io::Result<()> {
     let mut space = [0u32; 72];
     let table: &mut [u32] = &mut space;
-    made(b"set A", table);
-    store(b"00", table, of(2, 0), 10);
-    store(b"01", table, of(2, TOP / 2), 20);
-    store(b"0110", table, of(4, 0x6000_0000), 30);
-    m2_to_m5(table);
-    neighbours(table);
+    made(rt, "set A", table)?;
+    store(rt, "00", table, of(2, 0), 10)?;
+    store(rt, "01", table, of(2, TOP / 2), 20)?;
+    store(rt, "0110", table, of(4, 0x6000_0000), 30)?;
+    m2_to_m5(rt, table)?;
+    neighbours(rt, table)?;
     // M6
-    remove(b"00", table, of(2, 0));
-    longest(b"0111", table, of(4, 0x7000_0000));
-    remove(b"00", table, of(2, 0));
-    remove(b"0110", table, of(4, 0x6000_0000));
-    remove(b"01", table, of(2, TOP / 2));
-    longest(b"0111", table, of(4, 0x7000_0000));
+    remove(rt, "00", table, of(2, 0))?;
+    longest(rt, "0111", table, of(4, 0x7000_0000))?;
+    remove(rt, "00", table, of(2, 0))?;
+    remove(rt, "0110", table, of(4, 0x6000_0000))?;
+    remove(rt, "01", table, of(2, TOP / 2))?;
+    longest(rt, "0111", table, of(4, 0x7000_0000))?;
+    Ok(())
 }
 
-fn m2_to_m5(table: &[u32]) {
-    longest(b"0111", table, of(4, 0x7000_0000));
-    longest(b"0101", table, of(4, 0x5000_0000));
-    longest(b"1", table, of(1, TOP));
-    longest(b"the empty key", table, of(0, 0));
+fn m2_to_m5(rt: &impl Print, table: &[u32]) -> io::Result<()> {
+    longest(rt, "0111", table, of(4, 0x7000_0000))?;
+    longest(rt, "0101", table, of(4, 0x5000_0000))?;
+    longest(rt, "1", table, of(1, TOP))?;
+    longest(rt, "the empty key", table, of(0, 0))?;
+    Ok(())
 }
 
 // What lies beside M2 to M5.
-fn neighbours(table: &[u32]) {
-    longest(b"0110", table, of(4, 0x6000_0000));
-    longest(b"01101", table, of(5, 0x6800_0000));
-    fetch(b"01", table, of(2, TOP / 2));
-    fetch(b"0, a branch node", table, of(1, 0));
-    fetch(b"011, no node", table, of(3, 0x6000_0000));
+fn neighbours(rt: &impl Print, table: &[u32]) -> io::Result<()> {
+    longest(rt, "0110", table, of(4, 0x6000_0000))?;
+    longest(rt, "01101", table, of(5, 0x6800_0000))?;
+    fetch(rt, "01", table, of(2, TOP / 2))?;
+    fetch(rt, "0, a branch node", table, of(1, 0))?;
+    fetch(rt, "011, no node", table, of(3, 0x6000_0000))?;
+    Ok(())
 }
 
 // ---- M7 and M8
 
-fn m7() {
+fn m7(rt: &impl Print) -> io::Result<()> {
     let mut space = [0u32; 24];
     let table: &mut [u32] = &mut space;
-    made(b"c = 2", table);
-    store(b"0", table, of(1, 0), 1);
-    store(b"10", table, of(2, TOP), 2);
-    store(b"0", table, of(1, 0), 3);
-    store(b"00", table, of(2, 0), 4);
-    store(b"01", table, of(2, TOP / 2), 5);
-    store(b"00", table, of(2, 0), 6);
-    fetch(b"00", table, of(2, 0));
+    made(rt, "c = 2", table)?;
+    store(rt, "0", table, of(1, 0), 1)?;
+    store(rt, "10", table, of(2, TOP), 2)?;
+    store(rt, "0", table, of(1, 0), 3)?;
+    store(rt, "00", table, of(2, 0), 4)?;
+    store(rt, "01", table, of(2, TOP / 2), 5)?;
+    store(rt, "00", table, of(2, 0), 6)?;
+    fetch(rt, "00", table, of(2, 0))?;
+    Ok(())
 }
 
-fn m8() {
+fn m8(rt: &impl Print) -> io::Result<()> {
     let mut space = [0u32; 32];
     let table: &mut [u32] = &mut space;
-    made(b"c = 3", table);
-    store(b"0", table, of(1, 0), 1);
-    store(b"10", table, of(2, TOP), 2);
-    fetch(b"the empty prefix", table, of(0, 0));
-    store(b"the empty prefix", table, of(0, 0), 3);
-    fetch(b"the empty prefix", table, of(0, 0));
-    store(b"11", table, of(2, 0xc000_0000), 4);
-    remove(b"the empty prefix", table, of(0, 0));
-    longest(b"11", table, of(2, 0xc000_0000));
+    made(rt, "c = 3", table)?;
+    store(rt, "0", table, of(1, 0), 1)?;
+    store(rt, "10", table, of(2, TOP), 2)?;
+    fetch(rt, "the empty prefix", table, of(0, 0))?;
+    store(rt, "the empty prefix", table, of(0, 0), 3)?;
+    fetch(rt, "the empty prefix", table, of(0, 0))?;
+    store(rt, "11", table, of(2, 0xc000_0000), 4)?;
+    remove(rt, "the empty prefix", table, of(0, 0))?;
+    longest(rt, "11", table, of(2, 0xc000_0000))?;
+    Ok(())
 }
 
 // "room freed by a removal serves again"
-fn freed_room() {
+fn freed_room(rt: &impl Print) -> io::Result<()> {
     let mut space = [0u32; 32];
     let table: &mut [u32] = &mut space;
-    made(b"c = 3", table);
-    store(b"0", table, of(1, 0), 1);
-    store(b"1", table, of(1, TOP), 2);
-    store(b"00", table, of(2, 0), 3);
-    remove(b"1", table, of(1, TOP));
-    store(b"00", table, of(2, 0), 3);
-    store(b"000", table, of(3, 0), 4);
-    store(b"001", table, of(3, TOP / 4), 5);
+    made(rt, "c = 3", table)?;
+    store(rt, "0", table, of(1, 0), 1)?;
+    store(rt, "1", table, of(1, TOP), 2)?;
+    store(rt, "00", table, of(2, 0), 3)?;
+    remove(rt, "1", table, of(1, TOP))?;
+    store(rt, "00", table, of(2, 0), 3)?;
+    store(rt, "000", table, of(3, 0), 4)?;
+    store(rt, "001", table, of(3, TOP / 4), 5)?;
+    Ok(())
 }
 
 // ---- the order of the refusals
 
-fn refusals() {
+fn refusals(rt: &impl Print) -> io::Result<()> {
     let mut table = [0u32; 16];
     let mut bytes = [0u8; 129];
-    made(b"c = 1", &mut table);
-    refused(&table);
+    made(rt, "c = 1", &mut table)?;
+    refused(rt, &table)?;
     table[0] = 2;
-    answer(b"a link past the end", &table, of(0, 0), &mut bytes);
+    answer(rt, "a link past the end", &table, of(0, 0), &mut bytes)?;
+    Ok(())
 }
 
 // Each call is wrong in one way less than the one before it.
-fn refused(table: &[u32]) {
+fn refused(rt: &impl Print, table: &[u32]) -> io::Result<()> {
     let short = [0u32; 15];
     let mut few = [0u8; 128];
     let mut bytes = [0u8; 129];
     answer(
-        b"15 words, a bad key, 128 bytes",
+        rt,
+        "15 words, a bad key, 128 bytes",
         &short,
         of(129, 0),
         &mut few,
-    );
-    answer(b"a bad key, 128 bytes", table, of(0, 1), &mut few);
-    answer(b"128 bytes", table, of(0, 0), &mut few);
-    answer(b"129 bytes", table, of(0, 0), &mut bytes);
+    )?;
+    answer(rt, "a bad key, 128 bytes", table, of(0, 1), &mut few)?;
+    answer(rt, "128 bytes", table, of(0, 0), &mut few)?;
+    answer(rt, "129 bytes", table, of(0, 0), &mut bytes)?;
+    Ok(())
 }
 
 // ---- keys

@@ -1,29 +1,30 @@
 // Printing: trails, numbers and text.
-use libc::STDOUT_FILENO;
+use std::io;
 
 // ", trail" and the first n bytes.
-pub(crate) fn trail(n: usize, bytes: &[u8; 129]) {
-    say(b", trail");
+pub(crate) fn trail(rt: &impl Print, n: usize, bytes: &[u8; 129]) -> io::Result<()> {
+    say(rt, ", trail")?;
     let mut i: usize = 0;
     while i < n {
         if i < 129 {
-            byte(bytes[i]);
+            byte(rt, bytes[i])?;
         }
         i += 1;
     }
-    say(b"\n");
+    say(rt, "\n")?;
+    Ok(())
 }
 
 // A space and the byte.
-fn byte(b: u8) {
-    say(b" ");
-    number(b as u32);
+fn byte(rt: &impl Print, b: u8) -> io::Result<()> {
+    say(rt, " ")?;
+    number(rt, b as u32)
 }
 
-pub(crate) fn number(n: u32) {
-    io::print_decimal(STDOUT_FILENO, n as u64);
+pub(crate) fn number(rt: &impl Print, n: u32) -> io::Result<()> {
+    rt.print(n)
 }
 
-pub(crate) fn say(text: &[u8]) {
-    io::write_all(STDOUT_FILENO, text);
+pub(crate) fn say(rt: &impl Print, text: &str) -> io::Result<()> {
+    rt.print(text)
 }

@@ -6,72 +6,77 @@
 #![tactic(auto)]
 
 use image_write::Written;
-use libc::STDOUT_FILENO;
 use prefix::Prefix;
+use std::io;
 
 const TOP: u32 = 0x8000_0000;
 
 // What the output holds before the call.
 const BEFORE: u8 = 0xee;
 
-fn main() {
-    example();
-    empty();
-    hidden();
-    halves();
-    widths();
-    numbers();
-    refusals();
+fn main(rt: HostRuntime) -> io::Result<()> {
+    example(&rt)?;
+    empty(&rt)?;
+    hidden(&rt)?;
+    halves(&rt)?;
+    widths(&rt)?;
+    numbers(&rt)?;
+    refusals(&rt)?;
+    Ok(())
 }
 
 // "one prefix, bit 0, zone 5"
-fn example() {
+fn example(rt: &impl Print) -> io::Result<()> {
     let mut space = [0u32; 16];
     let table: &mut [u32] = &mut space;
     edits::fresh(table);
     store(table, of(1, 0), 5);
-    show(b"0 -> 5, epoch 0", table, 0);
-    show(b"0 -> 5, epoch 1", table, 1);
-    show(b"0 -> 5, epoch 255", table, 255);
-    show(b"0 -> 5, epoch 256", table, 256);
-    show(b"0 -> 5, epoch 2^64 - 1", table, 0xffff_ffff_ffff_ffff);
-    short(table);
-    exact(table);
+    show(rt, "0 -> 5, epoch 0", table, 0)?;
+    show(rt, "0 -> 5, epoch 1", table, 1)?;
+    show(rt, "0 -> 5, epoch 255", table, 255)?;
+    show(rt, "0 -> 5, epoch 256", table, 256)?;
+    show(rt, "0 -> 5, epoch 2^64 - 1", table, 0xffff_ffff_ffff_ffff)?;
+    short(rt, table)?;
+    exact(rt, table)?;
+    Ok(())
 }
 
 // "The empty set: N = 1, both records 1, no data section."
-fn empty() {
+fn empty(rt: &impl Print) -> io::Result<()> {
     let mut space = [0u32; 16];
     let table: &mut [u32] = &mut space;
     edits::fresh(table);
-    show(b"the empty set", table, 0);
+    show(rt, "the empty set", table, 0)?;
     store(table, of(0, 0), 7);
-    show(b"the empty prefix -> 7", table, 0);
+    show(rt, "the empty prefix -> 7", table, 0)?;
+    Ok(())
 }
 
 // A number that is stored and that no record uses.
-fn hidden() {
+fn hidden(rt: &impl Print) -> io::Result<()> {
     let mut space = [0u32; 32];
     let table: &mut [u32] = &mut space;
     edits::fresh(table);
     store(table, of(0, 0), 7);
     store(table, of(1, 0), 5);
-    show(b"7 over 0", table, 0);
+    show(rt, "7 over 0", table, 0)?;
     store(table, of(1, TOP), 6);
-    show(b"7 hidden by 0 and 1", table, 0);
+    show(rt, "7 hidden by 0 and 1", table, 0)?;
+    Ok(())
 }
 
 // "Equal halves are not merged."
-fn halves() {
+fn halves(rt: &impl Print) -> io::Result<()> {
     let mut space = [0u32; 32];
     let table: &mut [u32] = &mut space;
     edits::fresh(table);
     store(table, of(2, 0), 9);
     store(table, of(2, TOP / 2), 9);
-    show(b"equal halves", table, 0);
+    show(rt, "equal halves", table, 0)?;
+    Ok(())
 }
 
-fn widths() {
+fn widths(rt: &impl Print) -> io::Result<()> {
     let mut space = [0u32; 32];
     let table: &mut [u32] = &mut space;
     edits::fresh(table);
@@ -87,11 +92,12 @@ fn widths() {
         },
         1,
     );
-    show(b"widths 0 and 128", table, 0);
+    show(rt, "widths 0 and 128", table, 0)?;
+    Ok(())
 }
 
 // Zone numbers of 0 to 4 bytes, each side of the edges.
-fn numbers() {
+fn numbers(rt: &impl Print) -> io::Result<()> {
     let mut space = [0u32; 136];
     let table: &mut [u32] = &mut space;
     edits::fresh(table);
@@ -103,19 +109,21 @@ fn numbers() {
     store(table, of(3, 0xa000_0000), 0x0100_0000);
     store(table, of(3, 0xc000_0000), 65_535);
     store(table, of(3, 0xe000_0000), 255);
-    show(b"zone numbers at the edges", table, 1_700_000_000);
+    show(rt, "zone numbers at the edges", table, 1_700_000_000)?;
+    Ok(())
 }
 
-fn refusals() {
+fn refusals(rt: &impl Print) -> io::Result<()> {
     let mut fifteen = [0u32; 15];
-    show(b"15 words", &fifteen, 0);
+    show(rt, "15 words", &fifteen, 0)?;
     fifteen[0] = 1;
     let mut space = [0u32; 24];
     edits::fresh(&mut space);
     store(&mut space, of(1, 0), 5);
     // the record in use says that it has a left side
     space[13] = 1;
-    show(b"a node under itself", &space, 0);
+    show(rt, "a node under itself", &space, 0)?;
+    Ok(())
 }
 
 // ---- the calls
@@ -126,49 +134,52 @@ fn store(table: &mut [u32], k: Prefix, zone: u32) {
 }
 
 // The image, and whether the bytes after it are as they were.
-fn show(text: &[u8], table: &[u32], epoch: u64) {
+fn show(rt: &impl Print, text: &str, table: &[u32], epoch: u64) -> io::Result<()> {
     let mut out = [BEFORE; 1200];
-    say(text);
+    say(rt, text)?;
     let r = image_write::write(table, epoch, &mut out);
-    told(r, &out);
+    told(rt, r, &out)?;
+    Ok(())
 }
 
 // One byte less than the paper's example needs.
-fn short(table: &[u32]) {
+fn short(rt: &impl Print, table: &[u32]) -> io::Result<()> {
     let mut out = [BEFORE; 178];
-    say(b"178 bytes of output");
+    say(rt, "178 bytes of output")?;
     let r = image_write::write(table, 0, &mut out);
-    told(r, &out);
+    told(rt, r, &out)?;
+    Ok(())
 }
 
-fn exact(table: &[u32]) {
+fn exact(rt: &impl Print, table: &[u32]) -> io::Result<()> {
     let mut out = [BEFORE; 179];
-    say(b"179 bytes of output");
+    say(rt, "179 bytes of output")?;
     let r = image_write::write(table, 0, &mut out);
-    told(r, &out);
+    told(rt, r, &out)?;
+    Ok(())
 }
 
-fn told(r: Written, out: &[u8]) {
+fn told(rt: &impl Print, r: Written, out: &[u8]) -> io::Result<()> {
     match r {
         Written::Wrote(n) => {
-            number(b": wrote ", n);
-            left(n, out);
-            dump(n, out);
+            number(rt, ": wrote ", n)?;
+            left(rt, n, out)?;
+            dump(rt, n, out)
         }
         Written::ShortOut(n) => {
-            number(b": ShortOut, needs ", n);
-            left(0, out);
-            say(b"\n");
+            number(rt, ": ShortOut, needs ", n)?;
+            left(rt, 0, out)?;
+            say(rt, "\n")
         }
         Written::BadLength => {
-            say(b": BadLength");
-            left(0, out);
-            say(b"\n");
+            say(rt, ": BadLength")?;
+            left(rt, 0, out)?;
+            say(rt, "\n")
         }
         Written::Damaged => {
-            say(b": Damaged");
-            left(0, out);
-            say(b"\n");
+            say(rt, ": Damaged")?;
+            left(rt, 0, out)?;
+            say(rt, "\n")
         }
     }
 }
@@ -176,36 +187,37 @@ fn told(r: Written, out: &[u8]) {
 // ---- printing
 
 // Whether the bytes from the n-th on are as they were before the call.
-fn left(n: usize, out: &[u8]) {
+fn left(rt: &impl Print, n: usize, out: &[u8]) -> io::Result<()> {
     let mut i = n;
     while i < out.len() {
         if out[i] != BEFORE {
-            say(b", and the rest changed");
-            return;
+            return say(rt, ", and the rest changed");
         }
         i += 1;
     }
-    say(b", the rest as it was");
+    say(rt, ", the rest as it was")?;
+    Ok(())
 }
 
 // The first n bytes, in hex, 32 to a line.
-fn dump(n: usize, out: &[u8]) {
+fn dump(rt: &impl Print, n: usize, out: &[u8]) -> io::Result<()> {
     let mut i: usize = 0;
     while i < n {
         if i < out.len() {
             if i % 32 == 0 {
-                say(b"\n ");
+                say(rt, "\n ")?;
             }
-            hex(out[i]);
+            hex(rt, out[i])?;
         }
         i += 1;
     }
-    say(b"\n");
+    say(rt, "\n")?;
+    Ok(())
 }
 
-fn hex(b: u8) {
-    say(b" ");
-    io::print_hex(STDOUT_FILENO, b as u64, 2);
+fn hex(rt: &impl Print, b: u8) -> io::Result<()> {
+    say(rt, " ")?;
+    print!(rt; "{b:02x}")
 }
 
 // A key of at most 32 bits.
@@ -219,11 +231,11 @@ fn of(width: u32, w0: u32) -> Prefix {
     }
 }
 
-fn number(text: &[u8], n: usize) {
-    say(text);
-    io::print_decimal(STDOUT_FILENO, n as u64);
+fn number(rt: &impl Print, text: &str, n: usize) -> io::Result<()> {
+    say(rt, text)?;
+    rt.print(n)
 }
 
-fn say(text: &[u8]) {
-    io::write_all(STDOUT_FILENO, text);
+fn say(rt: &impl Print, text: &str) -> io::Result<()> {
+    rt.print(text)
 }
