@@ -21,8 +21,15 @@ pub fn ran(status: i32, out: &str, err: &str) -> Ran {
     Ran { status, out: out.into(), err: err.into() }
 }
 
-/// A folder of this test's own, empty at the start; the programs run in it.
+/// A folder of this test's own, empty at the start and gone at the end, since `rt ci` refuses a checkout with
+/// links in it; the programs run in it.
 pub struct Folder(PathBuf);
+
+impl Drop for Folder {
+    fn drop(&mut self) {
+        let _ = fs::remove_dir_all(&self.0);
+    }
+}
 
 impl Folder {
     pub fn new(name: &str) -> Folder {
