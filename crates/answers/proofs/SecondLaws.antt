@@ -102,7 +102,7 @@ pub answer_2 : ZoneIsRight
 answer_2 =
     record {
       longest = longest_match_some;
-      no-match = longest_match-none;
+      no_match = longest_match-none;
       cell = cell-key;
       fix = fix-zone;
       made = made_holds;
@@ -113,13 +113,13 @@ answer_2 =
       checked = checked_holds;
       image_accepted = λ o. o.promise.yes (sym o.number);
       image_exact = λ {m = m} {epoch} i o. o.number ∙ o.promise.exact m epoch i;
-      image-answers = λ {m = m} {epoch} i o.
+      image_answers = λ {m = m} {epoch} i o.
           (o.number ∙ o.promise.number m epoch i, o.listed ∙ ap looking.values_of (o.promise.meaning m epoch i));
-      image-described = λ {m = m} {epoch} i o.
+      image_described = λ {m = m} {epoch} i o.
           let d = o.promise.meaning m epoch i in
           (o.number ∙ d.0, o.listed ∙ d.1);
-      image-ships = λ h o. ships h o;
-      image-fits = λ {m = m} h o s.
+      image_ships = λ h o. ships h o;
+      image_fits = λ {m = m} h o s.
           let i = o.promise.image_is m h in
           fits-table m (ascending_holds h) (length_holds h) i.narrow i.zones_fit s;
     }

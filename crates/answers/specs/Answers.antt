@@ -1,7 +1,7 @@
 -- What every call on a table of a map answers and leaves.
 -- Paper 01, "Numbered refusals": "On memory it accepts, every call answers as it does for that set."
---   nodes_for, trail_for   how many nodes a call for k reports, and the trail that it leaves
---   Answers ws m         every call on the words ws answers as the map m does
+--   nodes_for, trail_for  how many nodes a call for k reports, and the trail that it leaves
+--   Answers ws m          every call on the words ws answers as the map m does
 -- Assumes nothing.
 use Rattle.std.specs.Prelude.{ℕ, ◌*◌, ◌≤◌, ◌<◌, ◌≡◌, List, [], ◌∷◌, ◌++◌, length, drop}
 use Rattle.std.proofs.Math.Option.{some}

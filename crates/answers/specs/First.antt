@@ -38,32 +38,32 @@ pub record NoInputStops : Type 0 where
   pub slice : {ws us after values : List ℕ} {from : Resume} {b r : ℕ} → SliceOut ws from b us r after values
       → GivenExactly (number_of_refused (refused_of (length ws) from b (length us))) (0 ∷ 6 ∷ []) r
   pub check : {ws values : List ℕ} {r : ℕ} → AuditOut ws r values → r ≡ cond (is_table (length ws)) 0 1
-  pub image-write : {ws out after values : List ℕ} {epoch r : ℕ} → WriteOut ws epoch out r after values
+  pub image_write : {ws out after values : List ℕ} {epoch r : ℕ} → WriteOut ws epoch out r after values
       → GivenExactly (refusal_of (audit_on ws)) (0 ∷ 5 ∷ []) r
-  pub image-check : {bs : List ℕ} {r : ℕ} → VerifyOut bs r → r ≡ cond (verify_on bs) 0 9
-  pub image-describe : {bs values : List ℕ} {r : ℕ} → DescribeOut bs r values → OneOf (0 ∷ 9 ∷ []) r
-  pub image-look : {bs ks values : List ℕ} {r : ℕ} → LookOut bs ks r values → OneOf (0 ∷ 9 ∷ []) r
+  pub image_check : {bs : List ℕ} {r : ℕ} → VerifyOut bs r → r ≡ cond (verify_on bs) 0 9
+  pub image_describe : {bs values : List ℕ} {r : ℕ} → DescribeOut bs r values → OneOf (0 ∷ 9 ∷ []) r
+  pub image_look : {bs ks values : List ℕ} {r : ℕ} → LookOut bs ks r values → OneOf (0 ∷ 9 ∷ []) r
   -- ---- "Every refusal leaves the table's words alone." Absent and Full write the trail; "all others return zero
   -- counts and leave every lent byte and word" (a Damaged slice may have written its output)
-  pub cell-leaves : {longitude latitude : ℤ} {values : List ℕ} → CellOut longitude latitude 3 values → values ≡ 0 ∷ 0 ∷ 0 ∷ 0 ∷ 0 ∷ []
-  pub fresh-leaves : {ws us : List ℕ} {n : ℕ} → FreshOut ws (suc n) us → us ≡ ws
-  pub fetch-leaves : {ws bs after values : List ℕ} {k : Prefix} {r : ℕ} → FetchOut ws k bs r after values → leaves_all r ≡ true
+  pub cell_leaves : {longitude latitude : ℤ} {values : List ℕ} → CellOut longitude latitude 3 values → values ≡ 0 ∷ 0 ∷ 0 ∷ 0 ∷ 0 ∷ []
+  pub fresh_leaves : {ws us : List ℕ} {n : ℕ} → FreshOut ws (suc n) us → us ≡ ws
+  pub fetch_leaves : {ws bs after values : List ℕ} {k : Prefix} {r : ℕ} → FetchOut ws k bs r after values → leaves_all r ≡ true
       → (values ≡ 0 ∷ 0 ∷ []) × (after ≡ bs)
-  pub longest-leaves : {ws bs after values : List ℕ} {k : Prefix} {r : ℕ} → LongestMatchOut ws k bs r after values → leaves_all r ≡ true
+  pub longest_leaves : {ws bs after values : List ℕ} {k : Prefix} {r : ℕ} → LongestMatchOut ws k bs r after values → leaves_all r ≡ true
       → (values ≡ 0 ∷ 0 ∷ 0 ∷ 0 ∷ []) × (after ≡ bs)
-  pub store-leaves : {ws bs us after values : List ℕ} {k : Prefix} {z r : ℕ} → StoreOut ws k z bs r us after values → leaves_all r ≡ true
+  pub store_leaves : {ws bs us after values : List ℕ} {k : Prefix} {z r : ℕ} → StoreOut ws k z bs r us after values → leaves_all r ≡ true
       → (values ≡ 0 ∷ 0 ∷ 0 ∷ []) × (after ≡ bs)
-  pub store-refused : {ws bs us after values : List ℕ} {k : Prefix} {z n : ℕ} → StoreOut ws k z bs (suc n) us after values → us ≡ ws
-  pub remove-leaves : {ws bs us after values : List ℕ} {k : Prefix} {r : ℕ} → RemoveOut ws k bs r us after values → leaves_all r ≡ true
+  pub store_refused : {ws bs us after values : List ℕ} {k : Prefix} {z n : ℕ} → StoreOut ws k z bs (suc n) us after values → us ≡ ws
+  pub remove_leaves : {ws bs us after values : List ℕ} {k : Prefix} {r : ℕ} → RemoveOut ws k bs r us after values → leaves_all r ≡ true
       → (values ≡ 0 ∷ 0 ∷ []) × (after ≡ bs)
-  pub remove-refused : {ws bs us after values : List ℕ} {k : Prefix} {n : ℕ} → RemoveOut ws k bs (suc n) us after values → us ≡ ws
-  pub slice-counts : {ws us after values : List ℕ} {from : Resume} {b n : ℕ} → SliceOut ws from b us (suc n) after values
+  pub remove_refused : {ws bs us after values : List ℕ} {k : Prefix} {n : ℕ} → RemoveOut ws k bs (suc n) us after values → us ≡ ws
+  pub slice_counts : {ws us after values : List ℕ} {from : Resume} {b n : ℕ} → SliceOut ws from b us (suc n) after values
       → values ≡ 0 ∷ 0 ∷ 0 ∷ []
-  pub slice-leaves : {ws us after values : List ℕ} {from : Resume} {b r n : ℕ} → SliceOut ws from b us r after values
+  pub slice_leaves : {ws us after values : List ℕ} {from : Resume} {b r n : ℕ} → SliceOut ws from b us r after values
       → number_of_refused (refused_of (length ws) from b (length us)) ≡ suc n → after ≡ us
-  pub check-counts : {ws values : List ℕ} {n : ℕ} → AuditOut ws (suc n) values → values ≡ 0 ∷ []
-  pub image-counts : {ws out after values : List ℕ} {epoch r n : ℕ} → WriteOut ws epoch out r after values → refusal_of (audit_on ws) ≡ suc n
+  pub check_counts : {ws values : List ℕ} {n : ℕ} → AuditOut ws (suc n) values → values ≡ 0 ∷ []
+  pub image_counts : {ws out after values : List ℕ} {epoch r n : ℕ} → WriteOut ws epoch out r after values → refusal_of (audit_on ws) ≡ suc n
       → values ≡ 0 ∷ []
-  pub image-leaves : {ws out after values : List ℕ} {epoch n : ℕ} → WriteOut ws epoch out (suc n) after values → after ≡ out
-  pub describe-counts : {bs values : List ℕ} → DescribeOut bs 9 values → values ≡ 0 ∷ 0 ∷ 0 ∷ []
-  pub look-counts : {bs ks values : List ℕ} → LookOut bs ks 9 values → values ≡ 0 ∷ 0 ∷ []
+  pub image_leaves : {ws out after values : List ℕ} {epoch n : ℕ} → WriteOut ws epoch out (suc n) after values → after ≡ out
+  pub describe_counts : {bs values : List ℕ} → DescribeOut bs 9 values → values ≡ 0 ∷ 0 ∷ 0 ∷ []
+  pub look_counts : {bs ks values : List ℕ} → LookOut bs ks 9 values → values ≡ 0 ∷ 0 ∷ []

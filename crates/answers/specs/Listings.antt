@@ -3,7 +3,7 @@
 --   Page            one slice: a table and its map, what was asked, and what the call left
 --   Follows o ps    each slice resumes at the last prefix given, the first one at o
 --   Ended ps        the last slice says that nothing remains
---   turns_of ps      the maps and the sizes of the slices
+--   turns_of ps     the maps and the sizes of the slices
 --   counts ps       the sum of the counts that the slices returned
 --   outputs ps      the words that the slices gave, one after the other
 -- Assumes nothing.

@@ -2,7 +2,7 @@
 -- Paper 00, demand 2: "The answer is the longest stored prefix of the key, and the table behaves as a plain map
 -- from prefixes to zone numbers. .. The checker accepts exactly the images that some list gives, and an accepted
 -- image answers every 128-bit address as that list does."
---   cell_key vs        the key that `nalfipode_cell` leaves in its values
+--   cell_key vs       the key that `nalfipode_cell` leaves in its values
 --   shown o           a longest match as `nalfipode_longest_match` tells it: 1, the width and the number, or zeros
 --   ZoneIsRight       the second answer
 -- Assumes nothing.
@@ -41,7 +41,7 @@ shown (some e) = 1 ∷ length e.key ∷ e.zone ∷ []
 pub record ZoneIsRight : Type 0 where
   -- ---- "The answer is the longest stored prefix of the key"
   pub longest : (k : Bits) (m : Map) (e : Entry) → longest_match k m ≡ some e → Longest k m e
-  pub no-match : (k : Bits) (m : Map) → longest_match k m ≡ none → (e : Entry) → Memᴰ e m → T (is_prefix e.key k) → ⊥
+  pub no_match : (k : Bits) (m : Map) → longest_match k m ≡ none → (e : Entry) → Memᴰ e m → T (is_prefix e.key k) → ⊥
   -- "These are the bits of a prefix of width 64."
   pub cell : {longitude latitude : ℤ} {values : List ℕ} → CellOut longitude latitude 0 values
       → Valid (cell_key values) × (string_of (cell_key values) ≡ cell_bits longitude latitude)
@@ -63,13 +63,13 @@ pub record ZoneIsRight : Type 0 where
   pub image_accepted : {bs : List ℕ} → VerifyOut bs 0 → (m : Map) × ((epoch : ℕ) × IsImage size24 bs m epoch)
   pub image_exact : {bs : List ℕ} {m : Map} {epoch r : ℕ} → IsImage size24 bs m epoch → VerifyOut bs r → r ≡ 0
   -- "an accepted image answers every 128-bit address as that list does"
-  pub image-answers : {bs ks values : List ℕ} {m : Map} {epoch r : ℕ} → IsImage size24 bs m epoch → LookOut bs ks r values
+  pub image_answers : {bs ks values : List ℕ} {m : Map} {epoch r : ℕ} → IsImage size24 bs m epoch → LookOut bs ks r values
       → (r ≡ 0) × (values ≡ values_of (found_of (longest_match (address_bits (get_or ks 0 0) (get_or ks 1 0) (get_or ks 2 0) (get_or ks 3 0)) m)))
-  pub image-described : {bs values : List ℕ} {m : Map} {epoch r : ℕ} → IsImage size24 bs m epoch → DescribeOut bs r values
+  pub image_described : {bs values : List ℕ} {m : Map} {epoch r : ℕ} → IsImage size24 bs m epoch → DescribeOut bs r values
       → (r ≡ 0) × (values ≡ length (forks_of m) ∷ length (zones_of (forks_of m)) ∷ epoch ∷ [])
   -- what the writer writes for a table is an image of its map
-  pub image-ships : {ws out after values : List ℕ} {m : Map} {epoch : ℕ} → Holds ws m → WriteOut ws epoch out 0 after values
+  pub image_ships : {ws out after values : List ℕ} {m : Map} {epoch : ℕ} → Holds ws m → WriteOut ws epoch out 0 after values
       → IsImage size24 (take (get_or values 0 0) after) m epoch
   -- "every table's list does" fit, whatever the record size
-  pub image-fits : {ws out after values : List ℕ} {m : Map} {epoch r : ℕ} → Holds ws m → WriteOut ws epoch out r after values
+  pub image_fits : {ws out after values : List ℕ} {m : Map} {epoch r : ℕ} → Holds ws m → WriteOut ws epoch out r after values
       → (s : Size) → T (fits s m)

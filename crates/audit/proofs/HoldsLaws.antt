@@ -133,8 +133,8 @@ module _ (ws : List ℕ) (n : ℕ) (table : Table (length ws)) (x : Below ws (he
       let c = capacity-table (length ws) table in
       record {
         records = capacity (length ws);
-        some-records = c.0;
-        most-records = c.1;
+        some_records = c.0;
+        most_records = c.1;
         length_is = c.2;
         tree = x.tree;
         good = x.good;

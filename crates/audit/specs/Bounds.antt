@@ -1,6 +1,6 @@
 -- Bounds on what the check's parts hand to each other.
 -- Internal: what this crate's own functions are held to; no public contract cites it.
---   low_of at    how long the string is that a node at a place begins with
+--   low_of at   how long the string is that a node at a place begins with
 -- Assumes nothing.
 use Rattle.std.specs.Prelude.{ℕ, ◌+◌}
 use Rattle.audit.specs.declared.Place.{Place}

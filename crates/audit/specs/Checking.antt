@@ -2,14 +2,14 @@
 -- Paper 01, "Numbered refusals": "The whole-table check gives BadLength, yes or no. It says yes exactly if,
 -- for some set, the records in use are that set's tree, each node once and linked as the tree is, and every
 -- other record is spare and open to later stores."
---   stem at             the string that a node at a place begins with
---   stands k at         the key begins so
---   is_node r at         a record may be a node at that place
---   below_on             the count after the nodes from a link down
---   chain_on             the spare records from a link on are exactly as many as are left
---   audit_on ws          what `audit` answers
+--   stem at               the string that a node at a place begins with
+--   stands k at           the key begins so
+--   is_node r at          a record may be a node at that place
+--   below_on              the count after the nodes from a link down
+--   chain_on              the spare records from a link on are exactly as many as are left
+--   audit_on ws           what `audit` answers
 --   number_of, values_of  the paper's number of an answer, 0 where accepted, and its values
---   Check               the contract of `audit`
+--   Check                 the contract of `audit`
 -- Assumes nothing.
 use Rattle.std.specs.Prelude.{ℕ, zero, suc, ◌-◌, ◌≡◌, Bool, true, false, ◌&&◌, ◌||◌, cond, List, [], ◌∷◌, ◌++◌, ltb, eqb, length}
 use Rattle.bits.specs.Bits.{Bits, is_prefix}

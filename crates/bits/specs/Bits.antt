@@ -1,6 +1,6 @@
 -- Bit strings. A bit is a Bool, and 1 is true; the first bit of a string stands first.
 -- Paper 01, "Keys and their order" and "The tree of a set".
---   is_prefix p k    p is a prefix of k: k begins with p
+--   is_prefix p k   p is a prefix of k: k begins with p
 --   lcp p k         the longest common prefix of p and k
 --   order p k       which of the two comes first
 --   before p k      p comes strictly before k

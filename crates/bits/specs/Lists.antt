@@ -3,7 +3,7 @@
 --   keep f xs     the elements that pass the test f, in their order
 --   any f xs      some element passes
 --   all f xs      every element passes
---   is_empty xs    there is none
+--   is_empty xs   there is none
 --   last xs       the last element, if there is one
 --   each f xs     what f gives for each element, one after the other
 -- Assumes nothing.

@@ -1,7 +1,7 @@
 -- Numbers as bit strings, highest bit first, and what stands after the first bits of a string.
 -- Paper 01, "Keys and their order": "Bit 1 is the highest bit of word 0; bit 128 is the lowest bit of word
 -- 3."
---   bits_of n x     the n lowest bits of x, the highest of them first
+--   bits_of n x    the n lowest bits of x, the highest of them first
 --   value k        the number that the string k is
 --   clear k        no bit of k is set
 --   blank n k      the first n bits of k, and a 0 for each other

@@ -1,7 +1,7 @@
 -- The order of two numbers, and two orders as one.
 -- Internal: what a comparison word by word is held to; no public contract cites it.
---   number_order    the order of two numbers
---   or_else o u     the first order, and the second where the first settles nothing
+--   number_order   the order of two numbers
+--   or_else o u    the first order, and the second where the first settles nothing
 -- Assumes nothing.
 use Rattle.std.specs.Prelude.{ℕ, cond, ltb}
 use Rattle.bits.specs.declared.Order.{Order}

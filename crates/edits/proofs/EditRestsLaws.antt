@@ -109,7 +109,7 @@ same_ends-survey ws us k m h agree room ts n s e q =
     let f = focus top h.tree (string_of k) in
     let last : x.last ≡ s = cc in
     let met : x.met ≡ e = cc in
-    let same = rw (path_links-walk h.tree (string_of k) h.good) at agree.same-records in
+    let same = rw (path_links-walk h.tree (string_of k) h.good) at agree.same_records in
     rw (last, met) at (same_ends-ended us ws (walk_links h.tree (string_of k))
     (λ l i. look_on_same us ws agree.same_length l (same l i)) f.above (link_at-path h.tree (string_of k))
     (string_of k) x.last x.met f.below (below-path h.tree (string_of k)) x.ended)
@@ -183,13 +183,13 @@ module _ (ws us : List ℕ) (k : Prefix) (m : Map) (h : Holds ws m) (agree : Agr
   agree-path =
       record {
         same_length = agree.same_length;
-        same-header = agree.same-header;
-        same-records = λ l i. agree.same-records l (Memᴰ.append_left (take 2 h.chain) i);
+        same_header = agree.same_header;
+        same_records = λ l i. agree.same_records l (Memᴰ.append_left (take 2 h.chain) i);
       }
 
   same_look_spare : (l : ℕ) → Memᴰ l (take 2 h.chain) → SameLook us ws l
   same_look_spare l i =
-      look_on_same us ws agree.same_length l (agree.same-records l (Memᴰ.append_right (path_links h.tree (string_of k)) i))
+      look_on_same us ws agree.same_length l (agree.same_records l (Memᴰ.append_right (path_links h.tree (string_of k)) i))
 
 pub store_on_rests : (ws us : List ℕ) (k : Prefix) (z : ℕ) (bs : List ℕ) (m : Map) → (h : Holds ws m)
     → Agree us ws (edit_links h (string_of k)) → SameEdit us ws (store_on us k z bs) (store_on ws k z bs)
@@ -199,7 +199,7 @@ store_on_rests ws us k z bs m h agree =
     let v = survey_on ws k (length bs) (replicate 129 0) in
     let ends = same_ends-survey ws us k m h path (length bs) (replicate 129 0) in
     rw (survey_on_rests ws us k m h path (length bs) (replicate 129 0)) (stored_of_same ws us k z bs v.widths v.out
-    (λ n s e q. plan_store_on_rests us ws k z s e agree.same-header
+    (λ n s e q. plan_store_on_rests us ws k z s e agree.same_header
     (same_looks-store us ws k m h (same_look_spare ws us k m h agree) s e (ends n s e q))))
 
 -- ---- remove_on
@@ -234,4 +234,4 @@ remove_on_rests ws us k bs m h agree =
     let v = survey_on ws k (length bs) (replicate 129 0) in
     let ends = same_ends-survey ws us k m h agree (length bs) (replicate 129 0) in
     rw (survey_on_rests ws us k m h agree (length bs) (replicate 129 0)) (removed_of_same ws us k bs v.widths v.out
-    (λ n s e q. plan_remove_on_rests us ws k s agree.same-header (same_ends-remove us ws s e (ends n s e q))))
+    (λ n s e q. plan_remove_on_rests us ws k s agree.same_header (same_ends-remove us ws s e (ends n s e q))))

@@ -135,8 +135,8 @@ fresh_on_holds ws t =
     let first : (header_at (fresh_on ws)).spare ≡ next_of 0 c = rw (header_at-fresh_on ws h, lt-ltb 0 c (some-capacity ws h)) in
     record {
       records = c;
-      some-records = some-capacity ws h;
-      most-records = most-capacity ws h;
+      some_records = some-capacity ws h;
+      most_records = most-capacity ws h;
       length_is = length-fresh_on ws ∙ length-capacity ws h;
       tree = tip;
       good = tt;

@@ -1,8 +1,8 @@
 -- Fresh: what it makes of the lent memory, and its promise.
 -- Paper 01, "The lent table": "Making a fresh table writes the memory as needed and gives the empty set."
---   next_of l c         the link after l in a chain of c records
---   chained_on ws c n   the words with the records 1 to n made spare, of c
---   fresh_on ws         the words made a fresh table
+--   next_of l c        the link after l in a chain of c records
+--   chained_on ws c n  the words with the records 1 to n made spare, of c
+--   fresh_on ws        the words made a fresh table
 --   number_of, values_of the paper's number of an answer, 0 where accepted, and its values
 --   Fresh              the contract of `fresh`
 -- Assumes nothing.

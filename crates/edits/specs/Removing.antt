@@ -1,8 +1,8 @@
 -- Remove: what it answers and writes on any words, and its promise.
 -- Paper 01, "The lent table": "Fetch gives the stored number, remove the one it took out."
---   remove_on ws k bs    the answer, the trail and the words, on any words
+--   remove_on ws k bs     the answer, the trail and the words, on any words
 --   number_of, values_of  the paper's number of an answer, 0 where accepted, and its values
---   Remove              the contract of `remove`
+--   Remove                the contract of `remove`
 -- Assumes nothing.
 use Rattle.std.specs.Prelude.{ℕ, suc, ◌+◌, ◌≤◌, ◌≡◌, true, cond, List, [], ◌∷◌, ◌++◌, eqb, length, drop, replicate}
 use Rattle.std.proofs.Math.Option.{Option, none, some}

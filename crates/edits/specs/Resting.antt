@@ -2,7 +2,7 @@
 -- Paper 01, "The lent table": "So do store and remove, where up to two spare records, fixed in docs/, agree
 -- too, and they write the same words in the same places on both". Two memories agree at links as `Agree` of
 -- lookup/specs/Paths.antt says.
---   edit_links h k     the path's records, and the first two of the spare chain
+--   edit_links h k    the path's records, and the first two of the spare chain
 --   written ws p      the words ws with the plan p written, if there is one
 --   SameEdit us ws    two edits, of us and of ws, answer alike, leave the same trail, and write the same plan
 -- Assumes nothing.

@@ -1,11 +1,11 @@
 -- Store: what it answers and writes on any words, and its promise.
 -- Paper 01, "The lent table": "Store adds a prefix or replaces its zone number; it says which, and gives the
 -- old number if there was one."
---   Edit A              what an edit gives and leaves: its answer, the trail's bytes, the table's words
---   accepted_of k n s    the answer of an accepted store
---   store_on ws k z bs   the answer, the trail and the words, on any words
+--   Edit A                what an edit gives and leaves: its answer, the trail's bytes, the table's words
+--   accepted_of k n s     the answer of an accepted store
+--   store_on ws k z bs    the answer, the trail and the words, on any words
 --   number_of, values_of  the paper's number of an answer, 0 where accepted, and its values
---   Store               the contract of `store`
+--   Store                 the contract of `store`
 -- Assumes nothing.
 use Rattle.std.specs.Prelude.{ℕ, suc, ◌+◌, ◌≤◌, ◌≡◌, Bool, true, cond, List, [], ◌∷◌, ◌++◌, eqb, length, drop, replicate}
 use Rattle.std.proofs.Math.Option.{Option, none, some}

@@ -1,7 +1,7 @@
 -- The laws of words that hold a map, opened at a place of its tree: the links below the place, above it and
 -- in the chain of spare records differ from each other and have room; and what stands in the words once a
 -- link is hung in the place and two records aside are written. No contract cites this file.
---   times_in l           how often the link l stands below the place, above it, and in the chain
+--   times_in l          how often the link l stands below the place, above it, and in the chain
 --   Aside w             the write w is to a record neither above nor below the place, or to none
 --   Hangs               what holds of words with a link hung in the place
 -- Assumes nothing.
@@ -75,7 +75,7 @@ module _ {ws : List ℕ} {m : Map} (h : Holds ws m) (c : Context ℕ) (u : Tree 
       (b.0, omega (arith, h.length_is))
 
   pub long-enough : 16 ≤ length ws
-  long-enough = omega (arith, h.length_is, h.some-records)
+  long-enough = omega (arith, h.length_is, h.some_records)
 
   -- ---- Aside
 

@@ -1,11 +1,11 @@
 -- The laws of what a remove plans where a walk has ended at the key's node: by the node's sides, and by the
 -- node above it where it has none. No contract cites this file.
---   empty_plan ws k a          the node a of the key k stores nothing
---   cut_plan ws c l n v w      the link l hangs in the open place of c, the chain starts at n, and there are
+--   empty_plan ws k a         the node a of the key k stores nothing
+--   cut_plan ws c l n v w     the link l hangs in the open place of c, the chain starts at n, and there are
 --                             the writes v and w
 --   freeing a n               the write that makes the record a spare, the chain going on at n
---   pass_plan ws c a l         the link l in the place of the node a
---   twin_plan ws c a b l       the link l in the place of the branch node b above a
+--   pass_plan ws c a l        the link l in the place of the node a
+--   twin_plan ws c a b l      the link l in the place of the branch node b above a
 --   Stays c                   with nothing left in the open place of c, what is above it stays
 -- Assumes nothing.
 use Prim.Native.Nat.{ℕ, ◌*◌, ◌/◌, ◌%◌, ◌<◌}

@@ -1,10 +1,10 @@
 -- The laws of what the plan of an edit rests on: two memories with one header that show the same at the links
 -- that the plan looks at have the same plan. Paper 01, "The lent table". No contract cites this file.
 -- What a plan looks at besides the header, where a walk ended with s and e (at a link 0 nothing is read):
---   plan_store_on     s .at, the last node that is a prefix of the key; where that is not the key's own node,
+--   plan_store_on   s.at, the last node that is a prefix of the key; where that is not the key's own node,
 --                   also the first spare record; and where a node is in the way, either that node, if the key
 --                   is a prefix of it, or the second spare record, if not: `store_links`
---   plan_remove_on    s .at, the key's node; where a side of it is empty, also s.up, the node above; where
+--   plan_remove_on  s.at, the key's node; where a side of it is empty, also s.up, the node above; where
 --                   both are and the node above stores nothing, also s.over, the one above that. No spare
 --                   record. `remove_links` has all three.
 --   SameLook        two memories show the same at a link; SameLooks: at all links of a list; SameNext: at the

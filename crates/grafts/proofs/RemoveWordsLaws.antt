@@ -42,7 +42,7 @@ chained-freed mem a next ls e q =
     (refl, rw e (is_spare-freed_of next), rw left q)
 
 length_holds : {ws : List ℕ} {m : Map} → Holds ws m → 16 ≤ length ws
-length_holds h = omega (arith, h.length_is, h.some-records)
+length_holds h = omega (arith, h.length_is, h.some_records)
 
 -- ---- empty_plan
 

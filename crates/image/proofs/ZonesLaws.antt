@@ -1,6 +1,6 @@
 -- The laws of the data section: the zone numbers ascend and are those that some side uses, and the entry of
 -- each starts at its offset. No contract cites this file.
---   uses z s, used_by z f   the side s, or a side of the fork f, is the zone number z
+--   uses z s, used_by z f  the side s, or a side of the fork f, is the zone number z
 -- Assumes nothing.
 use Prim.Native.Nat.{ℕ, ◌+◌, ◌<◌, ◌≤◌}
 use native.Mathlib.Nat.{zero-add, add_assoc}

@@ -1,7 +1,7 @@
 -- The images that paper 01 gives, byte for byte: its whole example of 179 bytes, and the empty set's.
 -- Paper 01, "The image" and "Small cases".
---   whole_example    "one prefix, bit 0, zone 5, epoch 0"
---   empty_example    "The empty set: N = 1, both records 1, no data section."
+--   whole_example   "one prefix, bit 0, zone 5, epoch 0"
+--   empty_example   "The empty set: N = 1, both records 1, no data section."
 -- Assumes nothing.
 use Rattle.std.specs.Prelude.{ℕ, ◌≡◌, refl, false, List, [], ◌∷◌, length}
 use Rattle.zones.specs.Maps.{keys, longest_match}

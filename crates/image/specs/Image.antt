@@ -1,19 +1,19 @@
 -- The image of a list: one byte string, over the record size.
 -- Paper 01, "The image". The record size is 24 bits there; 28 and 32 are known to come (paper 02), and are
 -- defined once with it.
---   Size, size_bits       the record sizes
---   proper_prefixes k     the proper prefixes of a string, shortest first
---   image_nodes s         the strings that are image nodes, in their order
+--   Size, size_bits      the record sizes
+--   proper_prefixes k    the proper prefixes of a string, shortest first
+--   image_nodes s        the strings that are image nodes, in their order
 --   Side, Fork           what a side of a node holds; the two sides of a node
---   forks_of m            the sides of all nodes of the image of m
---   zones_of fs           the zone numbers that some side uses, ascending, each once
+--   forks_of m           the sides of all nodes of the image of m
+--   zones_of fs          the zone numbers that some side uses, ascending, each once
 --   offset zs z          where the entry of z starts in the data section
---   record_of             a side as a number
+--   record_of            a side as a number
 --   node_bytes, tree_bytes the search tree
 --   metadata, marker     the fixed parts
 --   image size m epoch   the whole
 --   fits size m          every record fits the size
---   image_length          the paper's length
+--   image_length         the paper's length
 --   IsImage              bytes are the image of a list and an epoch
 -- Assumes nothing.
 use Rattle.std.specs.Prelude.{ℕ, suc, ◌+◌, ◌*◌, ◌/◌, ◌^◌, ◌<◌, ◌≡◌, Bool, true, false, cond, ◌&&◌, List, [], ◌∷◌, ◌++◌, map, T, leb, ltb, eqb, length, replicate}
@@ -183,5 +183,5 @@ pub record IsImage (s : Size) (bytes : List ℕ) (m : Map) (epoch : ℕ) : Type 
   pub zones_fit : T (all (λ e. ltb e.zone (2 ^ 32)) m)
   pub records_fit : T (fits s m)
   -- "any 64-bit number given by the caller"
-  pub epoch-fits : epoch < 2 ^ 64
-  pub bytes-are : bytes ≡ image s m epoch
+  pub epoch_fits : epoch < 2 ^ 64
+  pub bytes_are : bytes ≡ image s m epoch

@@ -9,7 +9,7 @@
 --   stalk xs o t        the trie t below a way of single steps by the bits xs; beside the way stands o
 --   grow o a t          the trie of a tree of the table, from a string of a bits down, o being the zone of the
 --                       longest stored prefix above
---   top_trie t           the whole: its top is a fork, even over one leaf
+--   top_trie t          the whole: its top is a fork, even over one leaf
 -- Assumes nothing.
 use Rattle.std.specs.Prelude.{ℕ, suc, ◌+◌, true, false, List, [], ◌∷◌, ◌++◌, length, drop}
 use Rattle.std.proofs.Math.Option.{Option, none, some}

@@ -5,12 +5,12 @@
 --   count_of s zs       how many they are
 --   runs_of zs          that for 0 to 4 bytes
 --   length_of runs      the bytes of the data section
---   start_of, share_of   where the run of numbers of s bytes starts, and how many it has
+--   start_of, share_of  where the run of numbers of s bytes starts, and how many it has
 --   one_more runs s     the runs with one more number, of s bytes
---   DataAt             bytes have the data section of zs at a place
---   RunAt              bytes have the entries of ascending numbers of s bytes at a place
---   Placed             what `place_in` promises: the place of a number in its run
---   Offset             what `offset_of` promises: the offset of a number's entry
+--   DataAt              bytes have the data section of zs at a place
+--   RunAt               bytes have the entries of ascending numbers of s bytes at a place
+--   Placed              what `place_in` promises: the place of a number in its run
+--   Offset              what `offset_of` promises: the offset of a number's entry
 -- Assumes nothing.
 use Rattle.std.specs.Prelude.{ℕ, zero, suc, ◌+◌, ◌*◌, ◌^◌, ◌≤◌, ◌<◌, ◌≡◌, T, ltb, eqb, length, take, drop, get_or}
 use mathlib.Core.List.{List, Memᴰ}

@@ -1,6 +1,6 @@
 -- The search in an image by some of the address's bits.
 -- Internal: what the code's loop is held to; no public contract cites it.
---   follow_on bs n i k   the last record that the search reads from node i on: a node where the bits run out
+--   follow_on bs n i k  the last record that the search reads from node i on: a node where the bits run out
 -- Assumes nothing.
 use Rattle.std.specs.Prelude.{ℕ, cond, List, [], ◌∷◌, ltb}
 use Rattle.bits.specs.Bits.{Bits}

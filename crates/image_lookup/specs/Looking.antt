@@ -1,15 +1,15 @@
 -- The image lookup over any bytes, and its promise.
 -- Paper 01, "The image": "Image lookup takes 128 bits and gives a zone number or no data; it is right for
 -- bytes the checker accepted."
---   record_in bs i x     the record of side x of the node i
---   entry_on bs at       the data entry at a byte
---   leaf_on bs n r       what a record answers that is no node, of n nodes
---   walk_on bs n i k     the search from the node i by the bits of k
---   look_on bs k         what the lookup answers
---   address_bits         the 128 bits of four words
+--   record_in bs i x      the record of side x of the node i
+--   entry_on bs at        the data entry at a byte
+--   leaf_on bs n r        what a record answers that is no node, of n nodes
+--   walk_on bs n i k      the search from the node i by the bits of k
+--   look_on bs k          what the lookup answers
+--   address_bits          the 128 bits of four words
 --   number_of, values_of  the paper's number of an answer, 0 where accepted, and its values
---   found_of             the answer for a longest match
---   LookImage           the contract of `look`
+--   found_of              the answer for a longest match
+--   LookImage             the contract of `look`
 -- Assumes nothing.
 use Rattle.std.specs.Prelude.{ℕ, ◌+◌, ◌-◌, ◌*◌, ◌≡◌, Bool, ◌&&◌, cond, List, [], ◌∷◌, ◌++◌, leb, ltb, eqb, length, get_or}
 use Rattle.std.proofs.Math.Option.{Option, none, some}

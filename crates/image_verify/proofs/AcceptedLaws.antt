@@ -64,7 +64,7 @@ module _ (bs : List ℕ) (small : T (all (λ b. ltb b 256) bs)) (n end epoch : �
       let d1 = zeros-zeros_on bs 16 (6 * n) inside (true-T (zeros_on 16 bs (6 * n)) p.zeros) in
       let d2 = p.entries.bytes in
       let d3 : drop end bs ≡ marker ++ metadata size24 n epoch =
-      ap (drop end) e.bytes-are ∙ drop_at (take end bs) (tail_of n epoch) end (length-take-le end bs e.within) in
+      ap (drop end) e.bytes_are ∙ drop_at (take end bs) (tail_of n epoch) end (length-take-le end bs e.within) in
       simp append_assoc (d0 ∙ ap (λ (l : List ℕ). tree_bytes size24 n zs (refs 0 t) ++ l) (d1 ∙ ap (λ (l : List ℕ). replicate 16 0 ++ l) (d2 ∙ ap (λ (l : List ℕ). data_of zs ++ l) d3)))
 
   forks-are : forks_of (leaves [] t) ≡ refs 0 t
@@ -80,8 +80,8 @@ module _ (bs : List ℕ) (small : T (all (λ b. ltb b 256) bs)) (n end epoch : �
     narrow = narrow-leaves t p.shallow;
     zones_fit = mem-all (λ e. ltb e.zone (2 ^ 32)) (leaves [] t) (λ x i. lt→ltb x.zone (2 ^ 32) (p.entries.fit x.zone (zoned-leaves zs [] t p.zoned x i)));
     records_fit = rw (forks-are, count_is, p.numbers) (stands-fits bs n zs small 0 t p.stands);
-    epoch-fits = e.epoch-fits;
-    bytes-are = bytes-found ∙ rw (forks-are, count_is, p.numbers);
+    epoch_fits = e.epoch_fits;
+    bytes_are = bytes-found ∙ rw (forks-are, count_is, p.numbers);
   }
 
 -- ---- verify_on

@@ -95,7 +95,7 @@ module _ (bs : List ℕ) (m : Map) (epoch : ℕ) (is : IsImage size24 bs m epoch
 
   front-tail : bs ≡ front ++ tail_of n epoch
   unfolding image image_of tail_of
-  front-tail = is.bytes-are ∙ append_assoc front marker (metadata size24 n epoch)
+  front-tail = is.bytes_are ∙ append_assoc front marker (metadata size24 n epoch)
 
   from-tree : bs ≡ tree ++ (replicate 16 0 ++ (data_of zs ++ tail_of n epoch))
   from-tree = front-tail ∙ append_assoc (tree ++ replicate 16 0) (data_of zs) (tail_of n epoch) ∙ append_assoc tree (replicate 16 0) (data_of zs ++ tail_of n epoch)
@@ -148,7 +148,7 @@ module _ (bs : List ℕ) (m : Map) (epoch : ℕ) (is : IsImage size24 bs m epoch
   pub frame-image : frame_on bs ≡ framed.Frame n (length front) epoch
   frame-image =
       rw front-tail
-      (frame_on-tail front n epoch (omega (arith, length_front, length-forks_of_pos m)) (length-forks_of_pos m) (length-forks_of-fits size24 m is.records_fit) is.epoch-fits)
+      (frame_on-tail front n epoch (omega (arith, length_front, length-forks_of_pos m)) (length-forks_of_pos m) (length-forks_of-fits size24 m is.records_fit) is.epoch_fits)
 
   pub verify_on-image : verify_on bs ≡ true
   verify_on-image = verify_on_parts bs n (length front) epoch zs (trie_of 128 m) frame-image parts-image

@@ -1,8 +1,8 @@
 -- What an image says of itself: how many nodes and data entries it has, and its epoch.
 -- Paper 01, "The image".
---   entry_count f bs at end   the data entries from `at` on, up to `end` (f is how many bytes there may be)
---   describe_on bs            what `describe` answers
---   number_of, values_of       the paper's number of an answer, 0 where accepted, and its values
+--   entry_count f bs at end  the data entries from `at` on, up to `end` (f is how many bytes there may be)
+--   describe_on bs           what `describe` answers
+--   number_of, values_of     the paper's number of an answer, 0 where accepted, and its values
 --   Describe                 the contract of `describe`
 -- Assumes nothing.
 use Rattle.std.specs.Prelude.{ℕ, zero, suc, ◌+◌, ◌*◌, ◌≡◌, cond, List, [], ◌∷◌, leb, length}

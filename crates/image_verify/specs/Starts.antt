@@ -2,7 +2,7 @@
 -- Paper 01, "The image": "the different zone numbers that some record uses" (no entry but those, so that each mark
 -- of a record is met by one of a start).
 -- Internal: what the checker's own functions are held to; no public contract cites it.
---   next_of end x     where the next entry starts, `end` where there is none
+--   next_of end x    where the next entry starts, `end` where there is none
 --   Flipped          the contract of `flip_starts`
 -- Assumes nothing.
 use Rattle.std.specs.Prelude.{ℕ, ◌+◌, ◌≤◌, ◌≡◌, ◌&&◌, List, ltb, length}

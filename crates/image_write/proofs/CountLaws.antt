@@ -32,7 +32,7 @@ size-hangs ws tip l a o h = omega arith
 size-hangs ws (node b s v x y) l a o h =
     let n : l ≡ 0 → ⊥ = λ e. let i = hangs-tip ws l a (node b s v x y) h e in let z : ◌≡◌ {A = ℕ} 0 1 = cc in omega arith in
     let k = hangs_node ws l a (node b s v x y) h n in
-    let is : node b s v x y ≡ node l k.string k.zone k.left k.right = k.is-node in
+    let is : node b s v x y ≡ node l k.string k.zone k.left k.right = k.is_node in
     let es : k.string ≡ s = cc in
     let ex : k.left ≡ x = cc in
     let ey : k.right ≡ y = cc in

@@ -62,14 +62,14 @@ module _ (ws : List ℕ) (m : Map) (h : Holds ws m) where
 
   module _ (p : Plan) (q : Planned ws m p) where
     room-nodes : size (grow none 0 h.tree) ≤ p.nodes
-    room-nodes = omega (arith, q.nodes-are, length-forks_of_holds ws m h, size-topped (grow none 0 h.tree))
+    room-nodes = omega (arith, q.nodes_are, length-forks_of_holds ws m h, size-topped (grow none 0 h.tree))
 
     some-nodes : 1 ≤ p.nodes
-    some-nodes = omega (arith, q.nodes-are, length-forks_of_holds ws m h, size-topped (grow none 0 h.tree))
+    some-nodes = omega (arith, q.nodes_are, length-forks_of_holds ws m h, size-topped (grow none 0 h.tree))
 
     module _ (w : Machine ws) (epoch : ℕ) where
       length-data : length (data_of zones) ≡ length_of p.runs
-      length-data = length-data_of-runs zones (zones_fit ws m h w) ∙ ap length_of (sym q.runs-are)
+      length-data = length-data_of-runs zones (zones_fit ws m h w) ∙ ap length_of (sym q.runs_are)
 
       pub runs_small : length_of p.runs ≤ 2 ^ 24
       runs_small = omega (arith, length-data, records_fit ws m h w)
@@ -77,7 +77,7 @@ module _ (ws : List ℕ) (m : Map) (h : Holds ws m) where
       -- the length by what is measured is the paper's
       pub length_by-image_length : length_by p epoch ≡ image_length size24 m epoch
       unfolding length_by image_length
-      length_by-image_length = rw (← length-data, q.nodes-are)
+      length_by-image_length = rw (← length-data, q.nodes_are)
 
 -- ---- the parts in an output with room for them
 
@@ -87,7 +87,7 @@ module _ {ws : List ℕ} {p : Plan} {epoch : ℕ} {out : List ℕ} (f : Fills ws
 
   pub room_parts : 6 * p.nodes + 16 + length (data_of used) + (154 + length (short p.nodes) + length (short epoch)) ≤ length out
   unfolding image_length
-  room_parts = let room = f.room in rw f.planned.nodes-are (omega arith)
+  room_parts = let room = f.room in rw f.planned.nodes_are (omega arith)
 
   module _ {o1 o2 : List ℕ} {r1 r2 : ℕ} (w : Machine ws) (d : Put out (6 * p.nodes + 16) (data_of used) o1 r1)
       (z : Put o1 (6 * p.nodes) (replicate 16 0) o2 r2) where
@@ -112,7 +112,7 @@ module _ {ws : List ℕ} {p : Plan} {epoch : ℕ} {out : List ℕ} (f : Fills ws
                 tree = f.holds.tree;
                 hangs = rw q.root_is (hangs_holds ws f.map f.holds);
                 zones = used;
-                stocked = record { section = section-put; runs-are = q.runs-are; fits = rw q.nodes-are (records_fit ws f.map f.holds w) };
+                stocked = record { section = section-put; runs_are = q.runs_are; fits = rw q.nodes_are (records_fit ws f.map f.holds w) };
                 over = none;
                 reaches = refl;
                 uses = uses_holds ws f.map f.holds;
@@ -135,7 +135,7 @@ module _ {ws : List ℕ} {p : Plan} {epoch : ℕ} {out : List ℕ} (f : Fills ws
           ∙ ap (λ (fs : List Fork). sets o2 0 (tree_bytes size24 p.nodes used fs)) (sym (forks_of_holds ws f.map f.holds))
 
       length-tree : length tree ≡ 6 * p.nodes
-      length-tree = length-tree_bytes size24 p.nodes used (forks_of f.map) ∙ rw f.planned.nodes-are
+      length-tree = length-tree_bytes size24 p.nodes used (forks_of f.map) ∙ rw f.planned.nodes_are
 
       -- all parts, one after the other
       parts-put : o4 ≡ sets out 0 ((tree ++ (replicate 16 0 ++ data_of used)) ++ tail_of p.nodes epoch)
@@ -149,7 +149,7 @@ module _ {ws : List ℕ} {p : Plan} {epoch : ℕ} {out : List ℕ} (f : Fills ws
 
       parts-image : (tree ++ (replicate 16 0 ++ data_of used)) ++ tail_of p.nodes epoch ≡ image size24 f.map epoch
       unfolding image image_of tail_of
-      parts-image = rw f.planned.nodes-are (simp append_assoc)
+      parts-image = rw f.planned.nodes_are (simp append_assoc)
 
       pub image-put : o4 ≡ filled f.map epoch out
       unfolding filled

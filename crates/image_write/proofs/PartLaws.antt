@@ -29,7 +29,7 @@ pub record Seen (ws : List ℕ) (l a : ℕ) (t : Tree ℕ) (r : Record) : Type 0
   pub zone : Option ℕ
   pub left : Tree ℕ
   pub right : Tree ℕ
-  pub is-node : t ≡ node l string zone left right
+  pub is_node : t ≡ node l string zone left right
   pub bears : Bears r string zone
   pub low : a ≤ r.tag / 2
   pub high : r.tag / 2 ≤ 128
@@ -49,7 +49,7 @@ seen ws l a t r h n e =
       zone = k.zone;
       left = k.left;
       right = k.right;
-      is-node = k.is-node;
+      is_node = k.is_node;
       bears = k.bears;
       low = omega (arith, k.low, k.width);
       high = omega (arith, k.high, k.width);
@@ -61,7 +61,7 @@ seen ws l a t r h n e =
 -- ---- full
 
 hangs_full : (ws : List ℕ) (l a : ℕ) (t : Tree ℕ) → Hangs ws l a t → (l ≡ 0 → ⊥) → full t ≡ true
-hangs_full ws l a t h n = rw (hangs_node ws l a t h n).is-node
+hangs_full ws l a t h n = rw (hangs_node ws l a t h n).is_node
 
 hangs_empty : (ws : List ℕ) (l a : ℕ) (t : Tree ℕ) → Hangs ws l a t → l ≡ 0 → full t ≡ false
 hangs_empty ws l a t h e = rw (hangs-tip ws l a t h e)
@@ -90,11 +90,11 @@ module _ (ws : List ℕ) (l a : ℕ) (t : Tree ℕ) (r : Record) (s : Seen ws l 
   side_trie o u = grow (nearer s.zone o) (r.tag / 2 + 1) u
 
   pub grow_end : (o : Option ℕ) → both_end r ≡ true → grow o a t ≡ stalk (drop a s.string) o (leaf (nearer s.zone o))
-  grow_end o e = rw (s.is-node, crown-cond, full_sides, e)
+  grow_end o e = rw (s.is_node, crown-cond, full_sides, e)
 
   pub grow-fork : (o : Option ℕ) → both_end r ≡ false
       → grow o a t ≡ stalk (drop a s.string) o (fork (side_trie o s.left) (side_trie o s.right))
-  grow-fork o e = rw (s.is-node, crown-cond, full_sides, e, s.width)
+  grow-fork o e = rw (s.is_node, crown-cond, full_sides, e, s.width)
 
   -- ---- size
 
@@ -109,4 +109,4 @@ module _ (ws : List ℕ) (l a : ℕ) (t : Tree ℕ) (r : Record) (s : Seen ws l 
   size-fork o e = rw (grow-fork o e, size-stalk) (omega (arith, length_way))
 
   pub labels_seen : length (labels t) ≡ 1 + length (labels s.left) + length (labels s.right)
-  labels_seen = rw s.is-node (omega (arith, length-append (labels s.left) (labels s.right)))
+  labels_seen = rw s.is_node (omega (arith, length-append (labels s.left) (labels s.right)))

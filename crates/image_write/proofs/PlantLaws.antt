@@ -47,27 +47,27 @@ grows-tip ws l a above next n runs out e p =
 -- ---- a node whose record r is read: its key k, the number of its own fork, the record h of the zone there
 
 pub record Node (ws : List ℕ) (l a above next n : ℕ) (runs : Runs) (out : List ℕ) (r : Record) (k : Prefix) (own h : ℕ) : Type 0 where
-  pub some-link : l ≡ 0 → ⊥
+  pub some_link : l ≡ 0 → ⊥
   pub record_is : r ≡ record_at ws l
   pub key_is : k ≡ key_of r
   pub place : own ≡ next + (r.tag / 2 - a)
   pub here : Here out n runs r above h
 
 module _ (ws : List ℕ) (l a above next n : ℕ) (runs : Runs) (out : List ℕ) (p : Planted ws l a above next n runs out)
-    (some-link : l ≡ 0 → ⊥) (r : Record) (e : r ≡ record_at ws l) where
+    (some_link : l ≡ 0 → ⊥) (r : Record) (e : r ≡ record_at ws l) where
   pub planted_low : a ≤ r.tag / 2
-  planted_low = (seen ws l a p.tree r p.hangs some-link e).low
+  planted_low = (seen ws l a p.tree r p.hangs some_link e).low
 
   pub planted_high : r.tag / 2 ≤ 128
-  planted_high = (seen ws l a p.tree r p.hangs some-link e).high
+  planted_high = (seen ws l a p.tree r p.hangs some_link e).high
 
   -- the node's own fork, or what follows the way to it, has a number in the image
   pub planted-own : next + (r.tag / 2 - a) ≤ n
   planted-own = at (both_end r) refl
     where
       at : (b : Bool) → both_end r ≡ b → next + (r.tag / 2 - a) ≤ n
-      at true f = omega (arith, p.room, size_end ws l a p.tree r (seen ws l a p.tree r p.hangs some-link e) p.over f)
-      at false f = omega (arith, p.room, size-fork ws l a p.tree r (seen ws l a p.tree r p.hangs some-link e) p.over f)
+      at true f = omega (arith, p.room, size_end ws l a p.tree r (seen ws l a p.tree r p.hangs some_link e) p.over f)
+      at false f = omega (arith, p.room, size-fork ws l a p.tree r (seen ws l a p.tree r p.hangs some_link e) p.over f)
 
   -- so that the way to it can be written
   pub planted-stalk : (k : Prefix) → k ≡ key_of r
@@ -84,7 +84,7 @@ module _ (ws : List ℕ) (l a above next n : ℕ) (runs : Runs) (out : List ℕ)
     (q : Node ws l a above next n runs out r k own h) where
   module _ (p : Planted ws l a above next n runs out) where
     abbrev node_seen : Seen ws l a p.tree r
-    node_seen = seen ws l a p.tree r p.hangs q.some-link q.record_is
+    node_seen = seen ws l a p.tree r p.hangs q.some_link q.record_is
 
     -- the way to the node, and the zone there
     abbrev way : Bits

@@ -32,14 +32,14 @@ data_at-sets out base zs i xs h d =
 pub stocked-sets : (out : List ℕ) (n : ℕ) (runs : Runs) (zs : List ℕ) (i : ℕ) (xs : List ℕ) → i + length xs ≤ 6 * n + 16 → Stocked out n runs zs
     → Stocked (sets out i xs) n runs zs
 stocked-sets out n runs zs i xs h s =
-    record { section = data_at-sets out (6 * n + 16) zs i xs h s.section; runs-are = s.runs-are; fits = s.fits }
+    record { section = data_at-sets out (6 * n + 16) zs i xs h s.section; runs_are = s.runs_are; fits = s.fits }
 
 -- ---- Stocked: what an output has room for
 
 pub stocked_length : (out : List ℕ) (n : ℕ) (runs : Runs) (zs : List ℕ) → Stocked out n runs zs
     → (6 * n + 16 + length_of runs ≤ length out) × (n + 16 + length_of runs ≤ 2 ^ 24)
 stocked_length out n runs zs s =
-    let e : length (data_of zs) ≡ length_of runs = length-data_of-runs zs s.section.zones_fit ∙ ap length_of (sym s.runs-are) in
+    let e : length (data_of zs) ≡ length_of runs = length-data_of-runs zs s.section.zones_fit ∙ ap length_of (sym s.runs_are) in
     (omega (arith, s.section.inside), omega (arith, s.fits))
 
 -- ---- Here
@@ -52,4 +52,4 @@ pub here-own : (out : List ℕ) (n : ℕ) (runs : Runs) (r : Record) (above d : 
     → Offset out (6 * n + 16) runs r.zone d → Here out n runs r above (n + 16 + d)
 unfolding zone_of
 here-own out n runs r above d e f zs o s h =
-    rw (eq-eqb (r.tag % 2) 1 (omega arith)) (λ i. ap (λ (k : ℕ). n + 16 + k) (f.right zs s.section s.runs-are i))
+    rw (eq-eqb (r.tag % 2) 1 (omega arith)) (λ i. ap (λ (k : ℕ). n + 16 + k) (f.right zs s.section s.runs_are i))

@@ -69,7 +69,7 @@ module _ (ws : List ℕ) (m : Map) (h : Holds ws m) where
         arith,
         length-append (labels h.tree) h.chain,
         length_once h.records (labels h.tree ++ h.chain) h.once,
-        h.most-records,
+        h.most_records,
       )
 
   pub forks_of_holds : forks_of m ≡ refs 0 (top_trie h.tree)
@@ -104,6 +104,6 @@ module _ (ws : List ℕ) (m : Map) (h : Holds ws m) where
           narrow = narrow-all;
           zones_fit = zoned-all;
           records_fit = fits-table m (ascending_holds h) (length_holds h) narrow-all zoned-all size24;
-          epoch-fits = small;
-          bytes-are = refl;
+          epoch_fits = small;
+          bytes_are = refl;
         }

@@ -39,8 +39,8 @@ planned_holds ws hd c n runs e f g m h r =
     let k : c ≡ size (grow none 0 h.tree) = f h.tree (rw e (hangs_holds ws m h)) in
     record {
       root_is = ap (λ (x : Header). x.root) e;
-      nodes-are = g ∙ ap (max 1) k ∙ sym (length-forks_of_holds ws m h ∙ size-topped (grow none 0 h.tree));
-      runs-are = r;
+      nodes_are = g ∙ ap (max 1) k ∙ sym (length-forks_of_holds ws m h ∙ size-topped (grow none 0 h.tree));
+      runs_are = r;
     }
 
 -- ---- Stands: the tree from its root

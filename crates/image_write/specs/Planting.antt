@@ -27,7 +27,7 @@ use Rattle.image_write.specs.declared.Grown.{Grown}
 -- the data section zs stands in an output after n nodes, in the given runs, and every record fits 24 bits
 pub record Stocked (out : List ℕ) (n : ℕ) (runs : Runs) (zs : List ℕ) : Type 0 where
   pub section : DataAt out (6 * n + 16) zs
-  pub runs-are : runs ≡ runs_of zs
+  pub runs_are : runs ≡ runs_of zs
   pub fits : n + 16 + length (data_of zs) ≤ 2 ^ 24
 
 -- the record h leads to the record r's own zone, or to what is above

@@ -2,9 +2,9 @@
 -- Paper 01, "The image": each proper prefix of a stored string is a node, though the table's tree keeps none
 -- where only one way goes on.
 -- Internal: what the writer's own functions are held to; no public contract cites it.
---   way_in xs m t       the record that leads to a way by the bits xs whose first node is m, and then to t
---   step_bytes          a node on the way: it goes on by one side, and the other holds what is above
---   stalk_bytes         all its nodes
+--   way_in xs m t      the record that leads to a way by the bits xs whose first node is m, and then to t
+--   step_bytes         a node on the way: it goes on by one side, and the other holds what is above
+--   stalk_bytes        all its nodes
 --   PutStalk           the contract of `put_stalk`
 -- Assumes nothing.
 use Rattle.std.specs.Prelude.{ℕ, suc, ◌*◌, ◌≡◌, Bool, true, false, List, [], ◌∷◌, ◌++◌}

@@ -2,7 +2,7 @@
 -- Paper 01, "The image".
 -- Internal: what the writer's own functions are held to; no public contract cites it.
 --   Planned      what is measured is what the image of the map has
---   length_by     the image's length, from what is measured
+--   length_by    the image's length, from what is measured
 --   Fills        a table, what is measured of it, and an output with room for its image
 --   filled       that output with the image
 -- Assumes nothing.
@@ -17,8 +17,8 @@ use Rattle.image_write.specs.declared.Plan.{Plan}
 
 pub record Planned (ws : List ℕ) (m : Map) (p : Plan) : Type 0 where
   pub root_is : p.root ≡ (header_at ws).root
-  pub nodes-are : p.nodes ≡ length (forks_of m)
-  pub runs-are : p.runs ≡ runs_of (zones_of (forks_of m))
+  pub nodes_are : p.nodes ≡ length (forks_of m)
+  pub runs_are : p.runs ≡ runs_of (zones_of (forks_of m))
 
 -- the paper's length, over what is measured
 unfoldable pub length_by : Plan → ℕ → ℕ

@@ -1,8 +1,8 @@
 -- The image writer's promise.
 -- Paper 01, "The image" and "Numbered refusals".
 --   number_of, values_of  the paper's number of an answer, 0 where accepted, and its values
---   refusal_of x         the first refusal of the table's words, where the whole-table check says x of them
---   WriteImage          the contract of `write`
+--   refusal_of x          the first refusal of the table's words, where the whole-table check says x of them
+--   WriteImage            the contract of `write`
 -- Assumes nothing.
 use Rattle.std.specs.Prelude.{ℕ, suc, ◌≤◌, ◌<◌, ◌≡◌, List, [], ◌∷◌, ◌++◌, length, drop}
 use Rattle.refusals.specs.Refusals.{GivenExactly}

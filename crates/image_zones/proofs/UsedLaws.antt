@@ -202,7 +202,7 @@ module _ {ws : List ℕ} {l a : ℕ} {t : Tree ℕ} (h : HangsNode ws l a t) (x 
       let own_is : own ≡ nearer h.zone o = f ∙ ap (λ (v : Option ℕ). nearer v o) (ap zone_of e ∙ h.bears.zone) in
       let sides : Keeps w xs r (used_in (grow (nearer h.zone o) d h.right) ++ (used_in (grow (nearer h.zone o) d h.left)
       ++ (beside a (length h.string) o ++ ys))) = rw (own_is, width_is) at k in
-      rw h.is-node (keeps_ext sides _ (used_node o a l h.string h.zone h.left h.right ys))
+      rw h.is_node (keeps_ext sides _ (used_node o a l h.string h.zone h.left h.right ys))
 
   -- nothing is stored below the node: its two sides are leaves that hold its own zone or the one above it
   pub keeps_end : {w : Window} {r : ℕ} {xs : List ℕ} (ys : List ℕ) (o own : Option ℕ) (b : Bool) → own ≡ nearer (zone_of x) o → b ≡ both_end x → b ≡ true

@@ -1,10 +1,10 @@
 -- The zone numbers that a part of an image uses.
 -- Paper 01, "The image": "the different zone numbers that some record uses".
 -- Internal: what the writer's own functions are held to; no public contract cites it.
---   zone_in above        the zone above a place, as what a leaf holds
---   used_in t            the zone numbers of the leaves of a trie
+--   zone_in above       the zone above a place, as what a leaf holds
+--   used_in t           the zone numbers of the leaves of a trie
 --   beside a n o        those of the leaves beside a way from a bits to n
---   both_end r           a record has no side
+--   both_end r          a record has no side
 -- Assumes nothing.
 use Rattle.std.specs.Prelude.{ℕ, Bool, cond, ◌&&◌, List, [], ◌∷◌, ◌++◌, ltb, eqb}
 use Rattle.std.proofs.Math.Option.{Option, none, some}

@@ -100,12 +100,12 @@ module _ {ws : List ℕ} {m : Map} (h : Holds ws m) where
 start_on_rests : (ws us : List ℕ) (r : Resume) (m : Map) (h : Holds ws m) → Resumes r → Agree us ws (path_links_of h.tree r) → (ls : List ℕ)
     → start_on us r ls ≡ start_on ws r ls
 unfolding seek_from
-start_on_rests ws us Start m h v agree ls = rw agree.same-header
+start_on_rests ws us Start m h v agree ls = rw agree.same_header
 start_on_rests ws us (After k) m h v agree ls =
-    rw agree.same-header
+    rw agree.same_header
     (seek_on_rests us ws agree.same_length k v h.tree [] 130 0 0 ls 0 (header_at ws).root h.good
     (record { linked = h.linked; sound = labels-room h }) tt refl
-    (rw (path_links-walk h.tree (string_of k) h.good) at agree.same-records))
+    (rw (path_links-walk h.tree (string_of k) h.good) at agree.same_records))
 
 module _ (ws us : List ℕ) (r : Resume) (b : ℕ) (vs : List ℕ) (m : Map) (h : Holds ws m) (agree : Agree us ws (slice_links h.tree r b)) where
   -- the stack before the way, and the links of the nodes passed
@@ -128,13 +128,13 @@ module _ (ws us : List ℕ) (r : Resume) (b : ℕ) (vs : List ℕ) (m : Map) (h 
   agree-path =
       record {
         same_length = agree.same_length;
-        same-header = agree.same-header;
-        same-records = λ l i. agree.same-records l (Memᴰ.append_left counting i);
+        same_header = agree.same_header;
+        same_records = λ l i. agree.same_records l (Memᴰ.append_left counting i);
       }
 
   same-passed : (l : ℕ) → Memᴰ l passing → record_at us l ≡ record_at ws l
   unfolding slice_links
-  same-passed l i = agree.same-records l (Memᴰ.append_right (path_links_of h.tree r) (rw passing_is at i))
+  same-passed l i = agree.same_records l (Memᴰ.append_right (path_links_of h.tree r) (rw passing_is at i))
 
   started_from_rests : Resumes r → started_from us b vs (start_on us r blank) ≡ started_from ws b vs (start_on ws r blank)
   started_from_rests v =

@@ -1,8 +1,8 @@
 -- What a slice rests on: the records that it reads.
 -- Paper 01, "The lent table": "so does a slice, where the header and the records of the nodes it counts
 -- agree". Two memories agree at links as `Agree` of lookup/specs/Paths.antt says.
---   path_links_of t r    the links of the resume prefix's path, none if no resume is given
---   slice_links t r b   the links of the nodes that a slice counts
+--   path_links_of t r  the links of the resume prefix's path, none if no resume is given
+--   slice_links t r b  the links of the nodes that a slice counts
 -- Assumes nothing.
 use Rattle.std.specs.Prelude.{ℕ, List, [], ◌++◌}
 use Rattle.bits.specs.Lists.{last}

@@ -1,11 +1,11 @@
 -- A slice: what it answers and writes on any words, and its promise.
 -- Paper 01, "Listing in slices" and "Numbered refusals".
 --   sound_of, refused_of  the refusals before any record is read, in their order
---   counted_of           the tour's answer, with the resume's path counted in
---   slice_on             the answer and the output, on any words
+--   counted_of            the tour's answer, with the resume's path counted in
+--   slice_on              the answer and the output, on any words
 --   number_of, values_of  the paper's number of an answer, 0 where accepted, and its values
---   words_of m           the entries of m as they stand in the output
---   Slice               the contract of `slice`
+--   words_of m            the entries of m as they stand in the output
+--   Slice                 the contract of `slice`
 -- Assumes nothing.
 use Rattle.std.specs.Prelude.{ℕ, suc, ◌+◌, ◌*◌, ◌≡◌, Bool, true, false, cond, List, [], ◌∷◌, ◌++◌, ltb, eqb, length, take, drop, replicate}
 use Rattle.std.proofs.Math.Option.{Option, none, some}

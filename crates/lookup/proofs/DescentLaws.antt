@@ -58,7 +58,7 @@ module _ (ws : List ℕ) (k : Prefix) (at low tag : ℕ) (w : Whole at) (room : 
       let same = agree_at (key_of here) k hi own (h (at / 8) w) g (tag / 2) x early p in
       let way = turn_way (tag / 2) x left right _ s after same in
       record {
-        some-record = not_top ws at tag ne t early;
+        some_record = not_top ws at tag ne t early;
         room = room;
         tag_is = t (at / 8) w;
         grown = f;

@@ -1,6 +1,6 @@
 -- The laws of where a walk ends on words that hold a map: what an edit of the key is planned from. The last
 -- place of the walk and what it met are what the tree's focus says. No contract cites this file.
---   low_of c             the width plus 1 of the first node above the open place of c, 0 where there is none
+--   low_of c            the width plus 1 of the first node above the open place of c, 0 where there is none
 --   Stood, Ended        where a walk stood at its end, by its links; and by what lies below the open place
 --   EndsAt              all that a survey for a key leaves on words that hold a map
 -- Assumes nothing.

@@ -4,7 +4,7 @@
 --   Along P c           every link above the open place of c has P
 --   AtTop P t           the link of t's top node has P
 --   FrameAt             a record is the node of a frame that the key passes
---   open_link ws c       the link that stands in the open place of c
+--   open_link ws c      the link that stands in the open place of c
 --   Frames, FocusAt     the records of all frames of a context, and of what lies below too
 -- Assumes nothing.
 use Prim.Native.Nat.{ℕ, zero, suc, ◌/◌, ◌<◌}

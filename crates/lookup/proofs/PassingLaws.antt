@@ -83,7 +83,7 @@ module _ (ws : List ℕ) (k : Prefix) (last : ℕ) (d : Descent) (tag link : ℕ
   down_past =
       let f = is_table_true (length ws) t in
       let place-most : d.next < 1048576 = omega (arith, p.room) in
-      let some : eqb d.next 0 ≡ false = ne_eqb d.next 0 (omega (arith, p.some-record)) in
+      let some : eqb d.next 0 ≡ false = ne_eqb d.next 0 (omega (arith, p.some_record)) in
       let low : here.tag / 2 + 1 ≡ tag / 2 + 1 = rw p.tag_is in
       let best : cond (odd tag) (here.tag / 2 + 1) (best_in ws d.held) ≡ best_in ws (cond (odd tag) d.next d.held) =
       passed_held (here.tag / 2 + 1) (best_in ws) (rw some) in
@@ -104,7 +104,7 @@ module _ (ws : List ℕ) (k : Prefix) (last : ℕ) (d : Descent) (tag link : ℕ
   pub passed_step : Down (tag / 2) (walk_in ws (pushed_on last d) (past_on d tag link)) ≡ step_on ws k (walk_in ws last d)
   unfolding walk_in
   passed_step =
-      let room = room-room_of (length ws) (d.next / 8) (omega (arith, p.some-record, s.next-whole)) (omega (arith, p.room, s.next-whole)) in
+      let room = room-room_of (length ws) (d.next / 8) (omega (arith, p.some_record, s.next_whole)) (omega (arith, p.room, s.next_whole)) in
       let e : tag / 2 ≡ here.tag / 2 = rw p.tag_is in
       let grown : d.low ≤ shared_on here k = omega (arith, passed-shared, p.grown) in
       sym (step_on_node ws k (walk_in ws last d) (d.next / 8) refl room
@@ -120,7 +120,7 @@ descended_start ws k ts root d e h g =
     let whole : 8 * root / 8 ≡ root = omega arith in
     subst (λ (x : Descent). Descended ws k ts 0 x ts) (sym g)
     (record {
-      sound = record { next-whole = omega arith; next-link = omega arith; held_at = record { whole = refl; room = λ ne. absurd (ne refl) } };
+      sound = record { next_whole = omega arith; next_link = omega arith; held_at = record { whole = refl; room = λ ne. absurd (ne refl) } };
       few = omega arith;
       early = omega arith;
       same = rw (whole, e);
@@ -132,14 +132,14 @@ module _ (ws : List ℕ) (k : Prefix) (ts after : List ℕ) (last : ℕ) (d : De
   held_past = at (odd tag)
     where
       at : (b : Bool) → Held ws (cond b d.next d.held)
-      at true = record { whole = h.sound.next-whole; room = λ ne. p.room }
+      at true = record { whole = h.sound.next_whole; room = λ ne. p.room }
       at false = h.sound.held_at
 
   descended_on : (past_on d tag link).next / 8 < 2 ^ 32 → Descended ws k ts (pushed_on last d) (past_on d tag link) (set after d.n (tag / 2))
   unfolding past_on
   descended_on f =
       record {
-        sound = record { next-whole = omega arith; next-link = f; held_at = held_past };
+        sound = record { next_whole = omega arith; next_link = f; held_at = held_past };
         few = omega (arith, h.few, p.grown);
         early = omega (arith, p.early);
         same =

@@ -1,6 +1,6 @@
 -- The laws of the links of a path's nodes: they are those of the nodes that a walk meets, and their records
 -- bear the path's strings. No contract cites this file.
---   walk_links t k    the links of the nodes that a walk for k meets in the tree t
+--   walk_links t k   the links of the nodes that a walk for k meets in the tree t
 -- Assumes nothing.
 use Prim.Native.Nat.{ℕ}
 use mathlib.Core.Path.{◌≡◌, refl, sym, ap, ◌∙◌}

@@ -135,9 +135,9 @@ module _ (ws us : List ℕ) (k : Prefix) (m : Map) (h : Holds ws m) (agree : Agr
   walk_from_rests : Valid k → (ts : List ℕ) → walk_from us k ts ≡ walk_from ws k ts
   unfolding walk_from start_on
   walk_from_rests v ts =
-      rw agree.same-header
+      rw agree.same_header
       (walk_on_rests us ws k v agree.same_length h.tree 130 0 ts (start_on ws) h.linked
-      (rw (path_links-walk h.tree (string_of k) h.good) at agree.same-records))
+      (rw (path_links-walk h.tree (string_of k) h.good) at agree.same_records))
 
   pub survey_on_rests : (room : ℕ) (ts : List ℕ) → survey_on us k room ts ≡ survey_on ws k room ts
   unfolding survey_on

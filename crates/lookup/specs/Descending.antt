@@ -5,10 +5,10 @@
 --   Held ws at        a record of ws starts at the word `at`, or `at` is 0
 --   Passed            what is known of a node that is passed
 --   Turned            the contract of `turn_at`
---   ends_on ws         the header's last word is no tag of a node that is passed
---   top_of, past_on     the descent at the top, and past a node
---   best_in, zone_in    the longest stored prefix so far, by the word at which its record starts
---   walk_in ws l d     the walk that a descent stands for, where the last nodes are l
+--   ends_on ws        the header's last word is no tag of a node that is passed
+--   top_of, past_on   the descent at the top, and past a node
+--   best_in, zone_in  the longest stored prefix so far, by the word at which its record starts
+--   walk_in ws l d    the walk that a descent stands for, where the last nodes are l
 --   Sound ws d        what a descent names are records' first words, or none
 --   Descended         the contract of `trace`: the walk from the top comes to what the walk from there does
 --   Reached           the contract of `descend`
@@ -32,7 +32,7 @@ pub record Held (ws : List ℕ) (at : ℕ) : Type 0 where
 
 -- what is known of a node that is passed: it is a proper prefix of the key, which goes on by the link
 pub record Passed (ws : List ℕ) (k : Prefix) (at low tag link : ℕ) : Type 0 where
-  pub some-record : 0 < at
+  pub some_record : 0 < at
   pub room : at + 8 ≤ length ws
   pub tag_is : tag ≡ (record_at ws (at / 8)).tag
   pub grown : low ≤ tag / 2
@@ -74,8 +74,8 @@ walk_in ws last d =
     }
 
 pub record Sound (ws : List ℕ) (d : Descent) : Type 0 where
-  pub next-whole : Whole d.next
-  pub next-link : d.next / 8 < 2 ^ 32
+  pub next_whole : Whole d.next
+  pub next_link : d.next / 8 < 2 ^ 32
   pub held_at : Held ws d.held
 
 pub record Descended (ws : List ℕ) (k : Prefix) (ts : List ℕ) (last : ℕ) (d : Descent) (after : List ℕ) : Type 0 where

@@ -1,10 +1,10 @@
 -- Fetch: what it answers on any words, and its promise.
 -- Paper 01, "The lent table" ("Fetch gives the stored number") and "Numbered refusals".
---   found_of k n s       the answer where the walk has ended after n nodes
---   fetched_of k x       the answer that comes of a survey
---   fetch_on ws k bs     the answer and the trail's bytes, on any words
+--   found_of k n s        the answer where the walk has ended after n nodes
+--   fetched_of k x        the answer that comes of a survey
+--   fetch_on ws k bs      the answer and the trail's bytes, on any words
 --   number_of, values_of  the paper's number of an answer, 0 where accepted, and its values
---   Fetch               the contract of `fetch`
+--   Fetch                 the contract of `fetch`
 -- Assumes nothing.
 use Rattle.std.specs.Prelude.{ℕ, ◌+◌, ◌≤◌, ◌≡◌, true, cond, List, [], ◌∷◌, ◌++◌, eqb, length, drop, replicate}
 use Rattle.std.proofs.Math.Option.{Option, none, some}

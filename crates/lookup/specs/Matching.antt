@@ -1,11 +1,11 @@
 -- Longest match: what it answers on any words, and its promise.
 -- Paper 01, "The lent table": "Longest match returns the width and zone number of the longest stored prefix
 -- of the key, or 'no match'."
---   match_of n s         the answer where the walk has ended after n nodes
---   matched_of x         the answer that comes of a survey
---   longest_on ws k bs   the answer and the trail's bytes, on any words
+--   match_of n s          the answer where the walk has ended after n nodes
+--   matched_of x          the answer that comes of a survey
+--   longest_on ws k bs    the answer and the trail's bytes, on any words
 --   number_of, values_of  the paper's number of an answer, 0 where accepted, and its values
---   LongestMatch        the contract of `longest_match`
+--   LongestMatch          the contract of `longest_match`
 -- Assumes nothing.
 use Rattle.std.specs.Prelude.{ℕ, ◌-◌, ◌≤◌, ◌≡◌, true, cond, List, [], ◌∷◌, ◌++◌, eqb, length, drop, replicate}
 use Rattle.std.proofs.Math.Option.{Option, none, some}

@@ -1,7 +1,7 @@
 -- The records of a path: which they are, and when two memories agree there.
 -- Paper 01, "The lent table".
---   links_where f t   the links of the nodes of t whose string passes the test f, in their order
---   path_links t k    the links of the nodes of k's path
+--   links_where f t  the links of the nodes of t whose string passes the test f, in their order
+--   path_links t k   the links of the nodes of k's path
 --   Agree us ws ls   two memories have the same length and header, and the same records at the links ls
 -- Assumes nothing.
 use Rattle.std.specs.Prelude.{ℕ, ◌≡◌, Bool, cond, length}
@@ -23,5 +23,5 @@ path_links t k = links_where (λ s. member s (path (keys (entries t)) k)) t
 -- "any memory of the same length that agrees with it in the header and in the records of .."
 pub record Agree (us ws : List ℕ) (ls : List ℕ) : Type 0 where
   pub same_length : length us ≡ length ws
-  pub same-header : header_at us ≡ header_at ws
-  pub same-records : (l : ℕ) → Memᴰ l ls → record_at us l ≡ record_at ws l
+  pub same_header : header_at us ≡ header_at ws
+  pub same_records : (l : ℕ) → Memᴰ l ls → record_at us l ≡ record_at ws l

@@ -1,11 +1,11 @@
 -- What a read comes to, on any words: what fetch and longest match have in common.
 -- Internal: what this crate's own functions are held to; no public contract cites it.
 -- Paper 01, "The lent table" and "Numbered refusals".
---   read_of x          what a read keeps of a survey: no link, which an edit alone asks for
---   nodes_of r         how many nodes a reading has widths of
---   read_by bs v       what a read makes of a survey: its reading, and the trail's bytes
+--   read_of x         what a read keeps of a survey: no link, which an edit alone asks for
+--   nodes_of r        how many nodes a reading has widths of
+--   read_by bs v      what a read makes of a survey: its reading, and the trail's bytes
 --   Walked v r after  the contract of `read_path`: what a walk that leaves v comes to for a read
---   read_on ws k bs    the contract of `read`
+--   read_on ws k bs   the contract of `read`
 -- Assumes nothing.
 use Rattle.std.specs.Prelude.{ℕ, ◌≡◌, List, length, replicate}
 use Rattle.prefix.specs.declared.Prefix.{Prefix}

@@ -1,19 +1,19 @@
 -- The path walk over a table's words, for any words: one step, the steps one after the other, and the
 -- refusals before them.
 -- Paper 01, "The tree of a set", "The lent table" and "Numbered refusals".
---   shared_on r k      the bits that a record's key shares with k
---   agree_on r k       how many of the 128 bits of the record's key and of k are the same, from the top
---   side_on r k w      the link of the side that k goes on by at a node of width w
---   down_on r k s      where the walk s goes on from a node that is a prefix of k
---   seen_on r k s      what a step makes of the record that it reads
---   step_on ws k s     one step
---   Survey            what a survey leaves: the widths written, and the answer
+--   shared_on r k       the bits that a record's key shares with k
+--   agree_on r k        how many of the 128 bits of the record's key and of k are the same, from the top
+--   side_on r k w       the link of the side that k goes on by at a node of width w
+--   down_on r k s       where the walk s goes on from a node that is a prefix of k
+--   seen_on r k s       what a step makes of the record that it reads
+--   step_on ws k s      one step
+--   Survey              what a survey leaves: the widths written, and the answer
 --   walk_on, walk_from  a walk of at most some steps; the walk from the top
---   survey_on ws k n   the refusals of a keyed call with a trail of n bytes, and its walk
---   first_refusal      the paper's number of the first refusal before the walk, 0 for none
---   leaves_all n       the refusal numbered n leaves everything lent
---   Outcome A         what a keyed call gives and leaves
---   leave_on           what stands in the lent trail after a keyed call
+--   survey_on ws k n    the refusals of a keyed call with a trail of n bytes, and its walk
+--   first_refusal       the paper's number of the first refusal before the walk, 0 for none
+--   leaves_all n        the refusal numbered n leaves everything lent
+--   Outcome A           what a keyed call gives and leaves
+--   leave_on            what stands in the lent trail after a keyed call
 -- Assumes nothing.
 use Rattle.std.specs.Prelude.{ℕ, zero, suc, ◌+◌, ◌/◌, Bool, not, ◌||◌, cond, List, ltb, eqb, length, set}
 use Rattle.std.proofs.Math.Seq.{paste}

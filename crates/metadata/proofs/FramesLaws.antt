@@ -68,10 +68,10 @@ module _ (front : List ℕ) (n epoch : ℕ) where
 -- the bytes end as an image of n nodes does, from `at` on
 pub record EndsAs (bs : List ℕ) (n at epoch : ℕ) : Type 0 where
   pub within : at ≤ length bs
-  pub bytes-are : bs ≡ take at bs ++ tail_of n epoch
+  pub bytes_are : bs ≡ take at bs ++ tail_of n epoch
   pub some_node : 1 ≤ n
   pub nodes_fit : n < 2 ^ 24
-  pub epoch-fits : epoch < 2 ^ 64
+  pub epoch_fits : epoch < 2 ^ 64
 
 -- the two numbers have as many bytes as were counted
 same_ends : (bs : List ℕ) (n a e epoch : ℕ) → T (all (λ b. ltb b 256) bs) → Counts bs n a e → epoch ≡ number_at bs (length bs - e) e
@@ -85,10 +85,10 @@ same_ends bs n a e epoch h c q d =
     omega (arith, length_short_below a n (omega arith) nb, length_short_below e epoch (omega arith) eb) in
     record {
       within = omega arith;
-      bytes-are = sym (take-append-drop (length bs - (154 + a + e)) bs) ∙ ap (λ (r : List ℕ). take (length bs - (154 + a + e)) bs ++ r) d;
+      bytes_are = sym (take-append-drop (length bs - (154 + a + e)) bs) ∙ ap (λ (r : List ℕ). take (length bs - (154 + a + e)) bs ++ r) d;
       some_node = length_short_some n some;
       nodes_fit = lt_of_lt_of_le nb (pow-le-pow_right (lit< tt) c.fits);
-      epoch-fits = lt_of_lt_of_le eb (pow-le-pow_right (lit< tt) c.few);
+      epoch_fits = lt_of_lt_of_le eb (pow-le-pow_right (lit< tt) c.few);
     }
 
 frame_of-frame : (bs : List ℕ) (m a e n at epoch : ℕ) → T (all (λ b. ltb b 256) bs) → Counts bs m a e

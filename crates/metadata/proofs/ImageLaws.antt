@@ -31,18 +31,18 @@ image_of_parts epoch fs = simp append_assoc
 module _ {bs : List ℕ} {m : Map} {epoch : ℕ} (h : IsImage size24 bs m epoch) where
   pub image_parts : bs ≡ front_of (forks_of m) ++ tail_of (length (forks_of m)) epoch
   unfolding image
-  image_parts = h.bytes-are ∙ image_of_parts epoch (forks_of m)
+  image_parts = h.bytes_are ∙ image_of_parts epoch (forks_of m)
 
   pub count_on-image : count_on bs ≡ counted.Nodes (length (forks_of m)) (length (short (length (forks_of m)))) (length (short epoch))
   count_on-image =
       let some : 0 < length (forks_of m) = length-forks_of_pos m in
       ap count_on image_parts
       ∙ count_on-tail (front_of (forks_of m)) (length (forks_of m)) epoch (omega (arith, length-front_of (forks_of m))) some
-      (length-forks_of-fits size24 m h.records_fit) h.epoch-fits
+      (length-forks_of-fits size24 m h.records_fit) h.epoch_fits
 
   pub frame_on-image : frame_on bs ≡ framed.Frame (length (forks_of m)) (length (front_of (forks_of m))) epoch
   frame_on-image =
       let some : 0 < length (forks_of m) = length-forks_of_pos m in
       ap frame_on image_parts
       ∙ frame_on-tail (front_of (forks_of m)) (length (forks_of m)) epoch (omega (arith, length-front_of (forks_of m))) some
-      (length-forks_of-fits size24 m h.records_fit) h.epoch-fits
+      (length-forks_of-fits size24 m h.records_fit) h.epoch_fits

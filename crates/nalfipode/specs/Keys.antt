@@ -1,5 +1,5 @@
 -- A key as C lends it: a width, and an array of four words.
---   key_of w ks   the prefix of the width w and the words ks, valid or not
+--   key_of w ks  the prefix of the width w and the words ks, valid or not
 -- Assumes nothing.
 use Rattle.std.specs.Prelude.{ℕ, List, get_or}
 use Rattle.prefix.specs.declared.Prefix.{Prefix}

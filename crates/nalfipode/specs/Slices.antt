@@ -1,5 +1,5 @@
 -- A listing's slice, from C.
---   resume_from n k   where a slice starts: at the first stored prefix for 0, else after k
+--   resume_from n k  where a slice starts: at the first stored prefix for 0, else after k
 --   SliceOut         the contract of `nalfipode_slice`: everything passed, the number r returned, and what is
 --                    left behind
 -- Assumes nothing.

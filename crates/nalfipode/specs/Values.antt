@@ -1,6 +1,6 @@
 -- An answer's values, as the list that its definition `values_of` gives.
 -- Internal: how the library's own helpers list an answer's values; no contract of an export cites it.
---   one_of .. five_of   the values of an answer that has so many
+--   one_of .. five_of  the values of an answer that has so many
 --   long_of            the value of an answer that has one, a length
 --   facts_of           the values of what an image says of itself
 -- Assumes nothing.

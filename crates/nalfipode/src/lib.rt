@@ -1,6 +1,6 @@
-// The linked library: each public call as a C function, one file for each group of calls. A C
-// function returns the paper's number of the answer, 0 where accepted, and writes the answer's
-// values into a lent array. None has a `requires`.
+// The library: each public call as C has it, one file for each group of calls. Such a function returns
+// the paper's number of the answer, 0 where accepted, and writes the answer's values into a lent array.
+// None has a `requires`. Crate nalfipode_c exports them.
 
 #![tactic(auto)]
 

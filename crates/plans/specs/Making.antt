@@ -1,12 +1,12 @@
 -- What an edit's code comes to, by its plan: the contracts of the functions that write.
 -- Internal: what this crate's own functions are held to; no public contract cites it.
 -- Paper 01, "Numbered refusals": "Every refusal leaves the table's words alone."
---   made_of p, left_by ws p   what is answered of a plan, and the words that it leaves
---   Makes                   the contract of a store, of a remove, and of each of their steps
---   is_hung x, hung_by        whether a link is hung, and the words with it and with a first spare record
---   Hangs                   the contract of `hang`
---   Taken ws l              l is the link of a record of ws
---   Fitting ws p            the places of a plan are in the table
+--   made_of p, left_by ws p  what is answered of a plan, and the words that it leaves
+--   Makes                    the contract of a store, of a remove, and of each of their steps
+--   is_hung x, hung_by       whether a link is hung, and the words with it and with a first spare record
+--   Hangs                    the contract of `hang`
+--   Taken ws l               l is the link of a record of ws
+--   Fitting ws p             the places of a plan are in the table
 -- Assumes nothing.
 use Rattle.std.specs.Prelude.{ℕ, ◌+◌, ◌≤◌, ◌<◌, ◌≡◌, Bool, true, false, List, length}
 use Rattle.prefix.specs.declared.Prefix.{Prefix}

@@ -1,10 +1,10 @@
 -- A prefix of at most 128 bits in four words, as the bit string that it is.
 -- Paper 01, "Keys and their order".
---   word_bits p      the 128 bits of the four words
---   string_of p      the prefix's bit string
---   is_valid p       the width is at most 128 and no bit is set after it
+--   word_bits p     the 128 bits of the four words
+--   string_of p     the prefix's bit string
+--   is_valid p      the width is at most 128 and no bit is set after it
 --   Valid p         the same as a fact, with its parts
---   cut_of a n       the prefix of the first n bits of a
+--   cut_of a n      the prefix of the first n bits of a
 -- Assumes nothing.
 use Rattle.std.specs.Prelude.{ℕ, ◌-◌, ◌≤◌, ◌≡◌, Bool, true, ◌&&◌, ◌++◌, leb, take, drop}
 use Rattle.bits.specs.Bits.{Bits}

@@ -63,5 +63,5 @@ module _ {ws : List ℕ} {m : Map} (h : Holds ws m) where
         length-entries h.tree,
         length-append (labels h.tree) h.chain,
         length_once h.records (labels h.tree ++ h.chain) h.once,
-        h.most-records,
+        h.most_records,
       )

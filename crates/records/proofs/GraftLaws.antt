@@ -148,8 +148,8 @@ pub holds-edit : {ws : List ℕ} {m : Map} (h : Holds ws m) (c : Context ℕ) (t
 holds-edit h c t t' us ls l' e n f i j g once =
     record {
       records = h.records;
-      some-records = h.some-records;
-      most-records = h.most-records;
+      some_records = h.some_records;
+      most_records = h.most_records;
       length_is = n ∙ h.length_is;
       tree = plug c t';
       good = g;

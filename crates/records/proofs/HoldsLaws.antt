@@ -76,7 +76,7 @@ chained_ext mem nem l (a ∷ ls) f h =
 
 module _ {ws : List ℕ} {m : Map} where
   pub is_table_holds : Holds ws m → is_table (length ws) ≡ true
-  is_table_holds h = ap is_table h.length_is ∙ is_table-table_length h.records h.some-records h.most-records
+  is_table_holds h = ap is_table h.length_is ∙ is_table-table_length h.records h.some_records h.most_records
 
   pub ascending_holds : Holds ws m → T (ascending m)
   ascending_holds h = rw h.map_is at (ascending-entries [] h.tree h.good)

@@ -26,7 +26,7 @@ pub record HangsNode (ws : List ℕ) (l a : ℕ) (t : Tree ℕ) : Type 0 where
   pub zone : Option ℕ
   pub left : Tree ℕ
   pub right : Tree ℕ
-  pub is-node : t ≡ node l string zone left right
+  pub is_node : t ≡ node l string zone left right
   pub inside : Inside ws l
   pub bears : Bears (record_at ws l) string zone
   pub low : a ≤ length string

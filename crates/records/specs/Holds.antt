@@ -56,8 +56,8 @@ Once c ls = (l : ℕ) → times l ls ≡ cond (ltb 0 l && leb l c) 1 0
 pub record Holds (ws : List ℕ) (m : Map) : Type 0 where
   -- "c is 1 to 65,535"
   pub records : ℕ
-  pub some-records : 1 ≤ records
-  pub most-records : records ≤ 65535
+  pub some_records : 1 ≤ records
+  pub most_records : records ≤ 65535
   pub length_is : length ws ≡ table_length records
   -- "the records in use are that set's tree"
   pub tree : Tree ℕ

@@ -6,7 +6,7 @@
 --   pull c t          the same after a remove: a node that stores nothing and has lost a side goes too
 --   Focus A           a part of a tree, and the context above it
 --   focus c t k       where a search for k in t ends, t itself standing below c
---   link_at n c        the label of the n-th node above the place, of a tree whose labels are links
+--   link_at n c       the label of the n-th node above the place, of a tree whose labels are links
 -- Assumes nothing.
 use Rattle.std.specs.Prelude.{ℕ, zero, suc, Bool, true, false}
 use Rattle.std.proofs.Math.Option.{Option}

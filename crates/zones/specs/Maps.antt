@@ -7,7 +7,7 @@
 --   get k m             the number stored for k, if there is one
 --   put e m             m after storing e
 --   without k m         m after removing k
---   longest_match k m    the entry with the longest stored prefix of k, if there is one
+--   longest_match k m   the entry with the longest stored prefix of k, if there is one
 --   Longest k m e       what makes e that entry: no stored prefix of k is wider
 -- Assumes nothing.
 use Rattle.std.specs.Prelude.{ℕ, ◌≤◌, Bool, not, cond, T, leb, length}

@@ -2,8 +2,8 @@
 -- Paper 01, "The tree of a set" and "The lent table".
 --   join p s          the set s with the string p
 --   nodes s           the nodes of s, in the order of strings
---   prefix_nodes s k   the nodes that are prefixes of k, shortest first
---   last_node s k q    the path's last node that is no prefix of k, as a list of one or none
+--   prefix_nodes s k  the nodes that are prefixes of k, shortest first
+--   last_node s k q   the path's last node that is no prefix of k, as a list of one or none
 --   path s k          the path of the key k
 --   trail s k         the widths of the path's nodes
 --   overflows c e m   the tree of m with e stored has more than c nodes

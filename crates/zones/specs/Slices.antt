@@ -6,7 +6,7 @@
 --   remains m r b     some stored prefix remains after these
 --   passes r z p      p comes after the resume prefix and not after z, the last one listed
 --   passed m r z      how many nodes do
---   way_to m r         the resume prefix's path
+--   way_to m r        the resume prefix's path
 --   found m r         its length
 --   count m r b       the slice's count
 -- Assumes nothing.

@@ -1,8 +1,8 @@
 -- A tree after a store and after a remove, and the tree of a map.
 -- Internal: what an edit of a table's words is held to; no public contract cites it.
 -- Paper 01, "The tree of a set" and "The lent table".
---   put_tree, remove_tree   the tree after a store, after a remove
---   shape t               t without its labels
+--   put_tree, remove_tree  the tree after a store, after a remove
+--   shape t                t without its labels
 --   tree_of m              the tree of a map, built by storing its entries
 -- Assumes nothing.
 use Rattle.std.specs.Prelude.{ℕ, true, false, [], ◌∷◌}

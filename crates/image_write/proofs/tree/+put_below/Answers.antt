@@ -34,7 +34,7 @@ node : (t : ℕ) (c : After-here_of-here t)
     (c.args.next + (c.read_record-r.result.tag / 2 - c.args.a)) c.here_of-here.result
 node t c =
     record {
-      some-link = search rules;
+      some_link = search rules;
       record_is = c.read_record-r.ensures;
       key_is = c.key_of-k.ensures;
       place = refl;

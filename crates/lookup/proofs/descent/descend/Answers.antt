@@ -19,7 +19,7 @@ loop-d-init c = record { last = 0; descended = descended_start _ _ _ _ _ (search
 
 pub turn_at-x-requires : goal.turn_at-x-requires
 turn_at-x-requires c =
-    (search rules, c.loop-d.invariant.descended.sound.next-whole, ends_tested _ _ c.ends.ensures (search rules))
+    (search rules, c.loop-d.invariant.descended.sound.next_whole, ends_tested _ _ c.ends.ensures (search rules))
 
 pub overflow_cast-widths : goal.overflow_cast-widths
 overflow_cast-widths c =

@@ -18,7 +18,7 @@ loop-tag-init c = descended_start _ _ _ _ _ (search rules) (search rules) c.top-
 
 pub turn_at-x-requires : goal.turn_at-x-requires
 turn_at-x-requires c =
-    (search rules, c.loop-tag.invariant.sound.next-whole, ends_tested _ _ c.ends.ensures (search rules))
+    (search rules, c.loop-tag.invariant.sound.next_whole, ends_tested _ _ c.ends.ensures (search rules))
 
 pub overflow_cast-widths : goal.overflow_cast-widths
 overflow_cast-widths c =
