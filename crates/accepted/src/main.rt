@@ -5,40 +5,39 @@
 
 #![tactic(auto)]
 
-use image_lookup::Looked;
-use image_verify::Verified;
-use image_write::Written;
+use lookup::TRAIL;
 use prefix::Prefix;
+use refusals::Refusal;
 use std::io;
 
 const TOP: u32 = 0x8000_0000;
 
-fn main(rt: HostRuntime) -> io::Result<()> {
+fn main(rt: HostRuntime) -> anyhow::Result<()> {
     example(&rt)?;
     set_a(&rt)?;
     Ok(())
 }
 
 // "one prefix, bit 0, zone 5, epoch 0"
-fn example(rt: &impl Print) -> io::Result<()> {
+fn example(rt: &impl Print) -> anyhow::Result<()> {
     let mut space = [0u32; 16];
     let table: &mut [u32] = &mut space;
-    edits::fresh(table);
-    store(table, of(1, 0), 5);
-    say(rt, "0 -> 5, epoch 0\n")?;
+    edits::fresh(table)?;
+    store(table, of(1, 0), 5)?;
+    println!(rt; "0 -> 5, epoch 0")?;
     tried(rt, table, 0)?;
     Ok(())
 }
 
 // 00 -> 10, 01 -> 20, 0110 -> 30
-fn set_a(rt: &impl Print) -> io::Result<()> {
+fn set_a(rt: &impl Print) -> anyhow::Result<()> {
     let mut space = [0u32; 72];
     let table: &mut [u32] = &mut space;
-    edits::fresh(table);
-    store(table, of(2, 0), 10);
-    store(table, of(2, TOP / 2), 20);
-    store(table, of(4, 0x6000_0000), 30);
-    say(rt, "set A, epoch 1700000000\n")?;
+    edits::fresh(table)?;
+    store(table, of(2, 0), 10)?;
+    store(table, of(2, TOP / 2), 20)?;
+    store(table, of(4, 0x6000_0000), 30)?;
+    println!(rt; "set A, epoch 1700000000")?;
     tried(rt, table, 1_700_000_000)?;
     Ok(())
 }
@@ -48,7 +47,7 @@ fn tried(rt: &impl Print, table: &[u32], epoch: u64) -> io::Result<()> {
     let mut space = [0u8; 256];
     let image: &mut [u8] = &mut space;
     match image_write::write(table, epoch, image) {
-        Written::Wrote(n) => {
+        Ok(n) => {
             if n < image.len() {
                 asked(rt, &image[..n])?;
                 cut(rt, image, n)?;
@@ -56,61 +55,46 @@ fn tried(rt: &impl Print, table: &[u32], epoch: u64) -> io::Result<()> {
             }
             Ok(())
         }
-        _ => say(rt, "not written\n"),
+        Err(_) => println!(rt; "not written"),
     }
 }
 
 // ---- accepted
 
 fn asked(rt: &impl Print, image: &[u8]) -> io::Result<()> {
-    say(rt, "whole: ")?;
-    verdict(rt, image)?;
+    println!(rt; "whole: {}", verdict(image))?;
     look(rt, "0000..", image, 0, 0)?;
     look(rt, "0011..", image, 0x3fff_ffff, 0xffff_ffff)?;
     look(rt, "0100..", image, 0x4000_0000, 0)?;
     look(rt, "0110..", image, 0x6123_4567, 0)?;
     look(rt, "0111..", image, 0x7fff_ffff, 0xffff_ffff)?;
     look(rt, "1000..", image, TOP, 0)?;
-    look(rt, "1111..", image, 0xffff_ffff, 0xffff_ffff)?;
-    Ok(())
+    look(rt, "1111..", image, 0xffff_ffff, 0xffff_ffff)
 }
 
 fn look(rt: &impl Print, text: &str, image: &[u8], w0: u32, rest: u32) -> io::Result<()> {
-    say(rt, text)?;
-    match image_lookup::look(image, w0, rest, rest, rest) {
-        Looked::Zone(z) => {
-            say(rt, ": zone ")?;
-            number(rt, z as u64)?;
-        }
-        Looked::NoData => say(rt, ": no data")?,
-        Looked::BadImage => say(rt, ": BadImage")?,
+    match image_lookup::look(image, [w0, rest, rest, rest]) {
+        Ok(Some(zone)) => println!(rt; "{text}: zone {zone}"),
+        Ok(None) => println!(rt; "{text}: no data"),
+        Err(e) => println!(rt; "{text}: {e}"),
     }
-    say(rt, "\n")?;
-    Ok(())
 }
 
 // ---- too short, too long
 
 fn cut(rt: &impl Print, image: &[u8], n: usize) -> io::Result<()> {
-    let mut yes: u64 = 0;
-    let mut i: usize = 0;
-    while i < n {
-        if i < image.len() {
-            yes = counted(yes, &image[..i]);
+    let mut yes: usize = 0;
+    for i in 0..n {
+        if i < image.len() && accepted(&image[..i]) {
+            yes += 1;
         }
-        i += 1;
     }
-    say(rt, "shorter ones accepted: ")?;
-    number(rt, yes)?;
-    say(rt, "\none byte longer: ")?;
+    println!(rt; "shorter ones accepted: {yes}")?;
     if n < image.len() {
-        verdict(rt, &image[..n + 1])?;
+        println!(rt; "one byte longer: {}", verdict(&image[..n + 1]))?;
     }
-    say(rt, "one byte off the front: ")?;
-    if 0 < n {
-        if n <= image.len() {
-            verdict(rt, &image[1..n])?;
-        }
+    if 0 < n && n <= image.len() {
+        println!(rt; "one byte off the front: {}", verdict(&image[1..n]))?;
     }
     Ok(())
 }
@@ -118,70 +102,51 @@ fn cut(rt: &impl Print, image: &[u8], n: usize) -> io::Result<()> {
 // ---- one byte changed
 
 fn changed(rt: &impl Print, image: &mut [u8]) -> io::Result<()> {
-    let mut i: usize = 0;
-    while i < image.len() {
+    for i in 0..image.len() {
         let yes = others(image, i);
         if yes != 0 {
-            say(rt, "byte ")?;
-            number(rt, i as u64)?;
-            say(rt, ": other values accepted: ")?;
-            number(rt, yes)?;
-            say(rt, "\n")?;
+            println!(rt; "byte {i}: other values accepted: {yes}")?;
         }
-        i += 1;
     }
     Ok(())
 }
 
 // How many other values of the byte i are accepted.
-fn others(image: &mut [u8], i: usize) -> u64 {
+fn others(image: &mut [u8], i: usize) -> usize {
     if image.len() <= i {
         return 0;
     }
     let b = image[i];
-    let mut yes: u64 = 0;
-    let mut v: u8 = b;
-    let mut left: u32 = 255;
-    while 0 < left {
-        v = next(v);
+    let mut yes = 0;
+    for v in 0..=255 {
         image[i] = v;
-        yes = counted(yes, image);
-        left -= 1;
+        if v != b && accepted(image) {
+            yes += 1;
+        }
     }
     image[i] = b;
     yes
 }
 
-fn next(v: u8) -> u8 {
-    if v == 255 {
-        return 0;
-    }
-    v + 1
-}
-
-// One more where the bytes are accepted.
-fn counted(yes: u64, bytes: &[u8]) -> u64 {
-    match image_verify::verify(bytes) {
-        Verified::Yes => yes.wrapping_add(1),
-        Verified::BadImage => yes,
-    }
+fn accepted(bytes: &[u8]) -> bool {
+    image_verify::verify(bytes).is_ok()
 }
 
 // ---- printing
 
-fn verdict(rt: &impl Print, bytes: &[u8]) -> io::Result<()> {
-    match image_verify::verify(bytes) {
-        Verified::Yes => say(rt, "accepted\n"),
-        Verified::BadImage => say(rt, "BadImage\n"),
+fn verdict(bytes: &[u8]) -> &'static str {
+    if accepted(bytes) {
+        return "accepted";
     }
+    "BadImage"
 }
 
-fn store(table: &mut [u32], k: Prefix, zone: u32) {
-    let mut trail = [0u8; 129];
-    edits::store(table, k, zone, &mut trail);
+fn store(table: &mut [u32], k: Prefix, zone: u32) -> Result<(), Refusal> {
+    edits::store(table, k, zone, &mut [0; TRAIL])?;
+    Ok(())
 }
 
-// A key of at most 32 bits.
+// A key of at most 32 bits. Stays in each of four programs: a crate for one literal would be no plainer.
 fn of(width: u32, w0: u32) -> Prefix {
     Prefix {
         width,
@@ -190,12 +155,4 @@ fn of(width: u32, w0: u32) -> Prefix {
         w2: 0,
         w3: 0,
     }
-}
-
-fn number(rt: &impl Print, n: u64) -> io::Result<()> {
-    rt.print(n)
-}
-
-fn say(rt: &impl Print, text: &str) -> io::Result<()> {
-    rt.print(text)
 }

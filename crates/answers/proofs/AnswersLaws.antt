@@ -3,7 +3,13 @@
 -- Assumes nothing.
 use Prim.Native.Nat.{ℕ}
 use mathlib.Core.Path.{◌≡◌, refl, ap, ◌∙◌}
+use mathlib.Core.Bool.{Bool, true, false}
 use mathlib.Core.List.{List}
+use mathlib.Core.Option.{Option}
+use Rattle.std.specs.Prelude.{Result, Ok, Err}
+use Rattle.refusals.specs.Refusals.{number, number_of}
+use Rattle.refusals.specs.declared.Refusal.{Refusal}
+use Rattle.refusals.specs.declared.Refusal.TheVariants.{BadLength, BadPrefix, BadPosition, BadSize, ShortOut, Damaged, Absent, Full, BadImage}
 use Rattle.zones.specs.Maps.{Map}
 use Rattle.records.specs.Holds.{Holds}
 use Rattle.records.proofs.HoldsLaws.{overflows-replaced}
@@ -14,9 +20,6 @@ use Rattle.plans.specs.Planning.{entry_of}
 use Rattle.edits.specs.Storing as storing
 use Rattle.edits.specs.Removing as removing
 use Rattle.listing.specs.Slicing as slicing
-use Rattle.listing.specs.Slicing.{number_of_refused}
-use Rattle.listing.specs.declared.Refused.{Refused}
-use Rattle.listing.specs.declared.Refused.TheVariants as refused
 use Rattle.answers.specs.Made.{Tells}
 use Rattle.answers.specs.Answers.{Answers}
 use Rattle.answers.proofs.MadeLaws.{store_holds}
@@ -28,36 +31,50 @@ tells_same : {A : Type 0} (number_of : A → ℕ) (values_of : A → List ℕ) {
     → x ≡ a → Tells number_of values_of a r values
 tells_same number_of values_of n v e = (n ∙ ap number_of e, v ∙ ap values_of e)
 
--- ---- number_of_refused
+-- ---- number_of
 
-pub refused_no : (x : Refused) → number_of_refused x ≡ 0 → x ≡ refused.No
-refused_no refused.BadLength h = cc
-refused_no refused.BadPrefix h = cc
-refused_no refused.BadSize h = cc
-refused_no refused.ShortOut h = cc
-refused_no refused.No h = refl
+-- no refusal has the number of none
+number_some : (e : Refusal) → number e ≡ 0 → ⊥
+number_some BadLength h = cc
+number_some BadPrefix h = cc
+number_some BadPosition h = cc
+number_some BadSize h = cc
+number_some (ShortOut n) h = cc
+number_some Damaged h = cc
+number_some (Absent n) h = cc
+number_some (Full n) h = cc
+number_some BadImage h = cc
+
+pub refused_no : (x : Result (Unit {0}) Refusal) → number_of x ≡ 0 → x ≡ Ok tt
+refused_no (Ok u) h = refl
+refused_no (Err e) h = absurd (number_some e h)
 
 -- ---- Answers
+
+-- a store that is not Full is accepted
+gives_accepted : (full : Bool) (n : ℕ) (old : Option ℕ) → full ≡ false → number_of (storing.gives full n old) ≡ 0
+gives_accepted false n old e = refl
+gives_accepted true n old e = cc
 
 pub answers_holds : {ws : List ℕ} {m : Map} → Holds ws m → Answers ws m
 answers_holds {ws} {m} h =
     record {
-      fetch = λ o v. (tells_same fetching.number_of fetching.values_of o.number o.listed (o.promise.meaning m h v.0 v.1), o.promise.written m h v.0 v.1);
-      longest = λ o v. (tells_same matching.number_of matching.values_of o.number o.listed (o.promise.meaning m h v.0 v.1), o.promise.written m h v.0 v.1);
+      fetch = λ o v. (tells_same number_of fetching.values_of o.number o.listed (o.promise.meaning m h v.0 v.1), o.promise.written m h v.0 v.1);
+      longest = λ o v. (tells_same number_of matching.values_of o.number o.listed (o.promise.meaning m h v.0 v.1), o.promise.written m h v.0 v.1);
       store = λ o v. (
-        tells_same storing.number_of storing.values_of o.number o.listed (o.promise.meaning m h v.0 v.1),
+        tells_same number_of storing.values_of o.number o.listed (o.promise.meaning m h v.0 v.1),
         o.promise.written m h v.0 v.1,
         store_holds h o,
       );
       replace = λ o v e.
-          o.number ∙ ap storing.number_of (o.promise.meaning m h v.0 v.1) ∙ rw (overflows-replaced h (entry_of _ _) _ e, e);
+          o.number ∙ ap number_of (o.promise.meaning m h v.0 v.1) ∙ gives_accepted _ _ _ (overflows-replaced h (entry_of _ _) _ e);
       remove = λ o v. (
-        tells_same removing.number_of removing.values_of o.number o.listed (o.promise.meaning m h v.0 v.1),
+        tells_same number_of removing.values_of o.number o.listed (o.promise.meaning m h v.0 v.1),
         o.promise.written m h v.0 v.1,
         o.promise.holds m h v.0 v.1,
       );
       slice = λ o e. (
-        tells_same slicing.number_of slicing.values_of o.number o.listed (o.promise.meaning m h (refused_no _ e)),
+        tells_same number_of slicing.values_of o.number o.listed (o.promise.meaning m h (refused_no _ e)),
         o.promise.written m h (refused_no _ e),
       );
       image = λ o i.

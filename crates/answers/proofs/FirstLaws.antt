@@ -5,13 +5,15 @@ use native.Mathlib.Omega.{arith}
 use mathlib.Core.Path.{◌≡◌, refl, sym, ap, ◌∙◌}
 use mathlib.Core.Bool.{Bool, true, false, cond}
 use mathlib.Core.List.{List, [], ◌∷◌}
+use Rattle.std.specs.Prelude.{Result, Ok, Err}
 use lib.ListN.{length}
+use Rattle.refusals.specs.Refusals.{number_of}
+use Rattle.refusals.specs.declared.Refusal.{Refusal}
 use Rattle.records.specs.Layout.{is_table}
 use Rattle.lookup.specs.Walking.{leaves_all}
 use Rattle.audit.specs.Checking as checking
 use Rattle.audit.specs.Checking.{Check}
-use Rattle.audit.specs.declared.Audited.{Audited}
-use Rattle.audit.specs.declared.Audited.TheVariants as audited
+use Rattle.audit.proofs.PromiseLaws.{number-audit_on}
 use Rattle.nalfipode.specs.Changes.{FreshOut}
 use Rattle.answers.specs.First.{NoInputStops}
 
@@ -29,22 +31,12 @@ fresh_left {ws} {us} {n} o = at (is_table (length ws)) refl
 
 -- ---- audit
 
-check-number : {ws : List ℕ} {r : ℕ} (a : Audited) → Check ws a → r ≡ checking.number_of a → r ≡ cond (is_table (length ws)) 0 1
-check-number {ws} {r} a p e = at a (is_table (length ws)) refl p.refusal.0 p.refusal.1 e
-  where
-    at : (x : Audited) (b : Bool) → is_table (length ws) ≡ b → (checking.number_of x ≡ 1 → is_table (length ws) ≡ false)
-        → (is_table (length ws) ≡ false → checking.number_of x ≡ 1) → r ≡ checking.number_of x → r ≡ cond b 0 1
-    at audited.Yes true e f g h = h
-    at audited.Yes false e f g h = absurd (omega (arith, g e))
-    at audited.No true e f g h = h
-    at audited.No false e f g h = absurd (omega (arith, g e))
-    at audited.BadLength true e f g h = let c = f refl in cc
-    at audited.BadLength false e f g h = h
+check-number : {ws : List ℕ} {r : ℕ} (a : Result Bool Refusal) → Check ws a → r ≡ number_of a → r ≡ cond (is_table (length ws)) 0 1
+check-number {ws} {r} a p e = e ∙ ap number_of p.answer ∙ number-audit_on ws
 
-check-zeros : {n : ℕ} (a : Audited) → suc n ≡ checking.number_of a → checking.values_of a ≡ 0 ∷ []
-check-zeros audited.Yes e = absurd (omega (arith, e))
-check-zeros audited.No e = refl
-check-zeros audited.BadLength e = refl
+check-zeros : {n : ℕ} (a : Result Bool Refusal) → suc n ≡ number_of a → checking.values_of a ≡ 0 ∷ []
+check-zeros (Ok b) e = absurd (omega (arith, e))
+check-zeros (Err x) e = refl
 
 -- ---- the answer
 

@@ -8,14 +8,18 @@ use mathlib.Core.Bool.{Bool, true, false, not, cond}
 use mathlib.Core.List.Memᴰ
 use mathlib.Core.List.{List, [], ◌∷◌, ◌++◌, Memᴰ}
 use mathlib.Core.Option.{Option, none, some, some-injective}
+use Rattle.std.specs.Prelude as std
+use Rattle.std.specs.Prelude.{None, Some}
 use lib.Dec.{T, leb, le→leb}
 use lib.ListN.{length, get_or, take, drop}
 use lib.Seq.{take_at}
 use Rattle.bits.specs.Lists.{all, keep}
 use Rattle.bits.specs.Bits.{Bits, equal, member}
 use Rattle.bits.proofs.ListsLaws.{mem-all, and_both}
+use Rattle.refusals.specs.Refusals.{number_of}
 use Rattle.refusals.proofs.RefusalsLaws.{exactly_accepted}
 use Rattle.prefix.specs.Keys.{string_of}
+use Rattle.prefix.specs.declared.Prefix.{Prefix}
 use Rattle.prefix.proofs.KeysLaws.{length-string_of}
 use Rattle.zones.specs.Maps.{Entry, Map, keys, ascending}
 use Rattle.zones.specs.Nodes.{nodes}
@@ -28,9 +32,7 @@ use Rattle.zones.proofs.TreeLaws.{keys-append}
 use Rattle.records.specs.Holds.{Holds}
 use Rattle.records.proofs.HoldsLaws.{ascending_holds}
 use Rattle.records.proofs.EntriesLaws.{narrow_holds}
-use Rattle.listing.specs.Slicing.{refused_of, number_of_refused, resume_of, entry_words, words_of}
-use Rattle.listing.specs.declared.Resume.{Resume}
-use Rattle.listing.specs.declared.Resume.TheVariants.{Start, After}
+use Rattle.listing.specs.Slicing.{refused_of, resume_of, entry_words, words_of}
 use Rattle.listing.proofs.StartLaws.{Resumes}
 use Rattle.listing.proofs.HoldsLaws.{refused_of_no}
 use Rattle.listing.proofs.TourLaws.{length-words_of}
@@ -45,19 +47,19 @@ unfolding keys
 narrow-all {m = m} h = mem-all (λ e. leb (length e.key) 128) m (λ e i. le→leb _ _ (narrow_holds h e.key (Memᴰ.map (λ (x : Entry). x.key) i)))
 
 -- a resume prefix that is sound is at most 128 wide
-resume_narrow : (from : Resume) → Resumes from → (q : Bits) → resume_of from ≡ some q → length q ≤ 128
-resume_narrow Start v q e = absurd (let z : ◌≡◌ {A = ℕ} 0 1 = cc in omega arith)
-resume_narrow (After k) v q e =
+resume_narrow : (from : std.Option Prefix) → Resumes from → (q : Bits) → resume_of from ≡ some q → length q ≤ 128
+resume_narrow None v q e = absurd (let z : ◌≡◌ {A = ℕ} 0 1 = cc in omega arith)
+resume_narrow (Some k) v q e =
     omega (arith, length-string_of k v.narrow, v.narrow, ap length (some-injective (string_of k) q e))
 
 -- ---- one slice
 
 -- where a slice is accepted no refusal applies
-pub accepted_no : {ws us after values : List ℕ} {from : Resume} {b : ℕ} → SliceOut ws from b us 0 after values
-    → number_of_refused (refused_of (length ws) from b (length us)) ≡ 0
+pub accepted_no : {ws us after values : List ℕ} {from : std.Option Prefix} {b : ℕ} → SliceOut ws from b us 0 after values
+    → number_of (refused_of (length ws) from b (length us)) ≡ 0
 accepted_no o = exactly_accepted _ _ _ o.promise.refusal (sym o.number)
 
-module _ {ws us after values : List ℕ} {m : Map} {from : Resume} {b : ℕ} (h : Holds ws m) (o : SliceOut ws from b us 0 after values) where
+module _ {ws us after values : List ℕ} {m : Map} {from : std.Option Prefix} {b : ℕ} (h : Holds ws m) (o : SliceOut ws from b us 0 after values) where
   pub slice-values : values ≡ length (given m (resume_of from) b) ∷ cond (remains m (resume_of from) b) 1 0 ∷ count m (resume_of from) b ∷ []
   slice-values = ((answers_holds h).slice o (accepted_no o)).0.1
 

@@ -9,6 +9,7 @@ use mathlib.Core.Option.{Option, none, some}
 use lib.Dec.{ltb}
 use lib.ListN.{length}
 use borrow.Author.Tests.{ltb-false}
+use Rattle.refusals.specs.Refusals.{number_of}
 use Rattle.refusals.specs.Refusals.{GivenExactly}
 use Rattle.prefix.specs.Keys.{string_of, is_valid}
 use Rattle.prefix.specs.declared.Prefix.{Prefix}
@@ -38,13 +39,13 @@ first_refusal-ready ws k bs = at (is_table (length ws)) (is_valid k) (ltb (lengt
 
 -- ---- edited
 
-edited_stored : (full : Bool) (n : ℕ) (o : Option ℕ) (new old : Map) → edited (storing.number_of (storing.gives full n o)) new old ≡ cond full old new
+edited_stored : (full : Bool) (n : ℕ) (o : Option ℕ) (new old : Map) → edited (number_of (storing.gives full n o)) new old ≡ cond full old new
 edited_stored true n o new old = refl
 edited_stored false n none new old = refl
 edited_stored false n (some z) new old = refl
 
 edited-removed : (n : ℕ) (o : Option ℕ) (k : Prefix) (m : Map) → get (string_of k) m ≡ o
-    → edited (removing.number_of (removing.gives n o)) (without (string_of k) m) m ≡ without (string_of k) m
+    → edited (number_of (removing.gives n o)) (without (string_of k) m) m ≡ without (string_of k) m
 edited-removed n none k m h = sym (without-none (string_of k) m h)
 edited-removed n (some z) k m h = refl
 
@@ -63,7 +64,7 @@ store_holds {ws} {bs} {us} {m = m} {k} {z} {r} h o = at (first_refusal ws k (len
         let p = first_refusal-ready ws k bs e in
         rw (o.number, o.promise.meaning m h p.0 p.1, edited_stored) (o.promise.holds m h p.0 p.1)
     at (suc n) e =
-        let g = subst (λ (f : ℕ). GivenExactly f (0 ∷ 6 ∷ 8 ∷ []) (storing.number_of o.answer)) e o.promise.refusal in
+        let g = subst (λ (f : ℕ). GivenExactly f (0 ∷ 6 ∷ 8 ∷ []) (number_of o.answer)) e o.promise.refusal in
         edited-refused r n (put (entry_of k z) m) h (o.number ∙ g) (o.promise.left n g)
 
 pub remove_holds : {ws bs us after values : List ℕ} {m : Map} {k : Prefix} {r : ℕ} → Holds ws m → RemoveOut ws k bs r us after values
@@ -75,7 +76,7 @@ remove_holds {ws} {bs} {us} {m = m} {k} {r} h o = at (first_refusal ws k (length
         let p = first_refusal-ready ws k bs e in
         rw (o.number, o.promise.meaning m h p.0 p.1, edited-removed _ (get (string_of k) m) k m refl) (o.promise.holds m h p.0 p.1)
     at (suc n) e =
-        let g = subst (λ (f : ℕ). GivenExactly f (0 ∷ 6 ∷ 7 ∷ []) (removing.number_of o.answer)) e o.promise.refusal in
+        let g = subst (λ (f : ℕ). GivenExactly f (0 ∷ 6 ∷ 7 ∷ []) (number_of o.answer)) e o.promise.refusal in
         edited-refused r n (without (string_of k) m) h (o.number ∙ g) (o.promise.left n g)
 
 -- ---- Made

@@ -4,17 +4,20 @@ use Prim.Native.Nat.{ℕ, ◌≤◌, ◌<◌}
 use native.Mathlib.Decide.{dec_lt}
 use native.Mathlib.Omega.{arith}
 use mathlib.Core.Path.{◌≡◌, refl, sym, ap, ◌∙◌}
+use mathlib.Core.Bool.{Bool, true, false}
 use mathlib.Core.List.{List, [], ◌∷◌}
 use mathlib.Core.Option.{Option, none, some}
+use Rattle.std.specs.Prelude.{Result, Ok, Err}
 use lib.IntN.{ℤ}
 use lib.ListN.{length, get_or, take, drop}
 use lib.Seq.{take_at}
+use Rattle.refusals.specs.declared.Refusal.{Refusal}
 use Rattle.prefix.specs.Keys.{string_of, Valid}
 use Rattle.prefix.specs.declared.Prefix.{Prefix}
 use Rattle.ground.specs.Cells as ground
+use Rattle.refusals.specs.Refusals.{number_of}
+use Rattle.refusals.proofs.RefusalsLaws.{number_pos}
 use Rattle.ground.specs.Cells.{cell_bits, Cell}
-use Rattle.ground.specs.declared.Located.{Located}
-use Rattle.ground.specs.declared.Located.TheVariants.{At, BadPosition}
 use Rattle.zones.specs.Maps.{Entry, Map, keys, longest_match}
 use Rattle.zones.specs.Nodes.{path}
 use Rattle.zones.proofs.MatchLaws.{longest_match_some, longest_match-none}
@@ -24,8 +27,6 @@ use Rattle.records.proofs.EntriesLaws.{length_holds}
 use Rattle.lookup.specs.Matching as matching
 use Rattle.audit.specs.Checking as checking
 use Rattle.audit.specs.Checking.{Check}
-use Rattle.audit.specs.declared.Audited.{Audited}
-use Rattle.audit.specs.declared.Audited.TheVariants as audited
 use Rattle.image.specs.Image.{size24, image, image_length, IsImage}
 use Rattle.image.proofs.LengthLaws.{length-image}
 use Rattle.image.proofs.FitsLaws.{fits-table}
@@ -49,12 +50,12 @@ CellAt longitude latitude p = Valid p × (string_of p ≡ cell_bits longitude la
 cell-key : {longitude latitude : ℤ} {values : List ℕ} → CellOut longitude latitude 0 values → CellAt longitude latitude (cell_key values)
 cell-key {longitude} {latitude} {values} o = at o.answer o.number o.listed o.promise
   where
-    at : (a : Located) → 0 ≡ ground.number_of a → values ≡ ground.values_of a → Cell longitude latitude a → CellAt longitude latitude (cell_key values)
-    at (At p) e v c = let s = c.meaning p refl in rw v (s.0, s.2)
-    at BadPosition e v c = absurd (omega (arith, e))
+    at : (a : Result Prefix Refusal) → 0 ≡ number_of a → values ≡ ground.values_of a → Cell longitude latitude a → CellAt longitude latitude (cell_key values)
+    at (Ok p) e v c = let s = c.meaning p refl in rw v (s.0, s.2)
+    at (Err x) e v c = absurd (omega (arith, e, number_pos x))
 
 -- a longest match as it is told
-tells-shown : (n : ℕ) (o : Option Entry) → (matching.number_of (matching.gives n o) ≡ 0) × (matching.values_of (matching.gives n o) ≡ n ∷ shown o)
+tells-shown : (n : ℕ) (o : Option Entry) → (number_of (matching.gives n o) ≡ 0) × (matching.values_of (matching.gives n o) ≡ n ∷ shown o)
 tells-shown n none = (refl, refl)
 tells-shown n (some e) = (refl, refl)
 
@@ -73,10 +74,10 @@ fix-zone {m = m} {longitude} {latitude} h c o room =
 checked_holds : {ws : List ℕ} {r : ℕ} → AuditOut ws r (1 ∷ []) → (m : Map) × Holds ws m
 checked_holds {ws} o = at o.answer o.listed o.promise
   where
-    at : (a : Audited) → 1 ∷ [] ≡ checking.values_of a → Check ws a → (m : Map) × Holds ws m
-    at audited.Yes e c = c.yes refl
-    at audited.No e c = absurd (omega (arith, ap (λ (vs : List ℕ). get_or vs 0 0) e))
-    at audited.BadLength e c = absurd (omega (arith, ap (λ (vs : List ℕ). get_or vs 0 0) e))
+    at : (a : Result Bool Refusal) → 1 ∷ [] ≡ checking.values_of a → Check ws a → (m : Map) × Holds ws m
+    at (Ok true) e c = c.yes refl
+    at (Ok false) e c = absurd (omega (arith, ap (λ (vs : List ℕ). get_or vs 0 0) e))
+    at (Err x) e c = absurd (omega (arith, ap (λ (vs : List ℕ). get_or vs 0 0) e))
 
 -- ---- what a table ships
 

@@ -4,6 +4,7 @@ use Prim.Native.Nat.{ℕ}
 use mathlib.Core.Path.{◌≡◌, refl}
 use mathlib.Core.List.{List, ◌∷◌}
 use lib.ListN.{length}
+use Rattle.refusals.specs.Refusals.{number_of}
 use Rattle.prefix.specs.Keys.{string_of}
 use Rattle.zones.specs.Maps.{Map, get, longest_match}
 use Rattle.zones.specs.Nodes.{overflows}
@@ -35,15 +36,15 @@ pub ran-map_tells : {ws : List ℕ} {m : Map} {cs : List Call} {ts : List Told} 
 ran-map_tells h done = refl
 ran-map_tells {m = m} h (fetched {k = k} o v rest) =
     let a = fetching.gives (nodes_for m k) (get (string_of k) m) in
-    told_next (told-tells fetching.number_of fetching.values_of a ((answers_holds h).fetch o v).0) (ran-map_tells h rest)
+    told_next (told-tells number_of fetching.values_of a ((answers_holds h).fetch o v).0) (ran-map_tells h rest)
 ran-map_tells {m = m} h (matched {k = k} o v rest) =
     let a = matching.gives (nodes_for m k) (longest_match (string_of k) m) in
-    told_next (told-tells matching.number_of matching.values_of a ((answers_holds h).longest o v).0) (ran-map_tells h rest)
+    told_next (told-tells number_of matching.values_of a ((answers_holds h).longest o v).0) (ran-map_tells h rest)
 ran-map_tells {ws} {m} h (stored {k = k} {z} o v rest) =
     let a = storing.gives (overflows (capacity (length ws)) (entry_of k z) m) (nodes_for m k) (get (string_of k) m) in
-    told_next (told-tells storing.number_of storing.values_of a ((answers_holds h).store o v).0)
+    told_next (told-tells number_of storing.values_of a ((answers_holds h).store o v).0)
     (rw o.promise.three.same_length at (ran-map_tells (o.promise.holds m h v.0 v.1) rest))
 ran-map_tells {m = m} h (removed {k = k} o v rest) =
     let a = removing.gives (nodes_for m k) (get (string_of k) m) in
-    told_next (told-tells removing.number_of removing.values_of a ((answers_holds h).remove o v).0)
+    told_next (told-tells number_of removing.values_of a ((answers_holds h).remove o v).0)
     (rw o.promise.three.same_length at (ran-map_tells (o.promise.holds m h v.0 v.1) rest))

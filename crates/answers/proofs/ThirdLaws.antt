@@ -6,6 +6,9 @@ use mathlib.Core.Path.{◌≡◌, refl, sym, ap, ◌∙◌}
 use mathlib.Core.Bool.{Bool, true, false}
 use mathlib.Core.List.{List, [], ◌∷◌}
 use mathlib.Core.Option.{Option, none, some}
+use Rattle.std.specs.Prelude as std
+use Rattle.refusals.specs.Refusals.{number_of}
+use Rattle.refusals.specs.declared.Refusal.{Refusal}
 use lib.ListN.{length, take}
 use Rattle.prefix.specs.Keys.{string_of, Valid}
 use Rattle.prefix.specs.declared.Prefix.{Prefix}
@@ -19,8 +22,8 @@ use Rattle.lookup.specs.Walking.{Outcome}
 use Rattle.lookup.specs.Fetching as fetching
 use Rattle.lookup.specs.Matching as matching
 use Rattle.lookup.specs.Paths.{Agree, path_links}
-use Rattle.lookup.specs.declared.Fetched.{Fetched}
-use Rattle.lookup.specs.declared.Matched.{Matched}
+use Rattle.lookup.specs.declared.Keyed.{Keyed}
+use Rattle.lookup.specs.declared.Match.{Match}
 use Rattle.lookup.proofs.RestsLaws.{fetch_on_rests, longest_on_rests}
 use Rattle.plans.specs.Planning.{entry_of}
 use Rattle.edits.specs.Storing as storing
@@ -31,7 +34,6 @@ use Rattle.edits.proofs.EditRestsLaws.{store_on_rests, remove_on_rests}
 use Rattle.listing.specs.Slicing as slicing
 use Rattle.listing.specs.Slicing.{Sliding}
 use Rattle.listing.specs.Resting.{slice_links}
-use Rattle.listing.specs.declared.Resume.{Resume}
 use Rattle.listing.proofs.SliceRestsLaws.{slice_on_rests}
 use Rattle.nalfipode.specs.Changes.{StoreOut, RemoveOut}
 use Rattle.nalfipode.specs.Reads.{FetchOut, LongestMatchOut}
@@ -99,14 +101,14 @@ module _ {ws us bs after later values told : List ℕ} {m : Map} {k : Prefix} {r
   fetch_alike : FetchOut ws k bs r after values → FetchOut us k bs q later told → (r ≡ q) × (values ≡ told) × (after ≡ later)
   fetch_alike o u =
       let e = sym o.promise.answer ∙ sym (fetch_on_rests ws us k bs m h agree) ∙ u.promise.answer in
-      let a = ap (λ (x : Outcome Fetched). x.answer) e in
-      (alike fetching.number_of o.number u.number a, alike fetching.values_of o.listed u.listed a, ap (λ (x : Outcome Fetched). x.bytes) e)
+      let a = ap (λ (x : Outcome (std.Result (Keyed ℕ) Refusal)). x.answer) e in
+      (alike number_of o.number u.number a, alike fetching.values_of o.listed u.listed a, ap (λ (x : Outcome (std.Result (Keyed ℕ) Refusal)). x.bytes) e)
 
   longest_alike : LongestMatchOut ws k bs r after values → LongestMatchOut us k bs q later told → (r ≡ q) × (values ≡ told) × (after ≡ later)
   longest_alike o u =
       let e = sym o.promise.answer ∙ sym (longest_on_rests ws us k bs m h agree) ∙ u.promise.answer in
-      let a = ap (λ (x : Outcome Matched). x.answer) e in
-      (alike matching.number_of o.number u.number a, alike matching.values_of o.listed u.listed a, ap (λ (x : Outcome Matched). x.bytes) e)
+      let a = ap (λ (x : Outcome (std.Result (Keyed (std.Option Match)) Refusal)). x.answer) e in
+      (alike number_of o.number u.number a, alike matching.values_of o.listed u.listed a, ap (λ (x : Outcome (std.Result (Keyed (std.Option Match)) Refusal)). x.bytes) e)
 
 -- the words that two edits leave
 module _ {ws us bs wt ut after later values told : List ℕ} {m : Map} {k : Prefix} {r q : ℕ} (h : Holds ws m) where
@@ -114,21 +116,21 @@ module _ {ws us bs wt ut after later values told : List ℕ} {m : Map} {k : Pref
       → (values ≡ told) × SameEdit us ws (record { answer = q; bytes = later; words = ut }) (record { answer = r; bytes = after; words = wt })
   store_alike {z} agree o u =
       let s = rw (o.promise.answer, u.promise.answer) at (store_on_rests ws us k z bs m h agree) in
-      (alike storing.values_of o.listed u.listed (sym s.answer), same_edit-number storing.number_of u.number o.number s)
+      (alike storing.values_of o.listed u.listed (sym s.answer), same_edit-number number_of u.number o.number s)
 
   remove_alike : Agree us ws (path_links h.tree (string_of k)) → RemoveOut ws k bs r wt after values → RemoveOut us k bs q ut later told
       → (values ≡ told) × SameEdit us ws (record { answer = q; bytes = later; words = ut }) (record { answer = r; bytes = after; words = wt })
   remove_alike agree o u =
       let s = rw (o.promise.answer, u.promise.answer) at (remove_on_rests ws us k bs m h agree) in
-      (alike removing.values_of o.listed u.listed (sym s.answer), same_edit-number removing.number_of u.number o.number s)
+      (alike removing.values_of o.listed u.listed (sym s.answer), same_edit-number number_of u.number o.number s)
 
-module _ {ws us vs after later values told : List ℕ} {m : Map} {from : Resume} {b r q : ℕ} (h : Holds ws m)
+module _ {ws us vs after later values told : List ℕ} {m : Map} {from : std.Option Prefix} {b r q : ℕ} (h : Holds ws m)
     (agree : Agree us ws (slice_links h.tree from b)) where
   slice_alike : SliceOut ws from b vs r after values → SliceOut us from b vs q later told → (r ≡ q) × (values ≡ told) × (after ≡ later)
   slice_alike o u =
       let e = sym o.promise.answer ∙ sym (slice_on_rests ws us from b vs m h agree) ∙ u.promise.answer in
       let a = ap (λ (x : Sliding). x.answer) e in
-      (alike slicing.number_of o.number u.number a, alike slicing.values_of o.listed u.listed a, ap (λ (x : Sliding). x.words) e)
+      (alike number_of o.number u.number a, alike slicing.values_of o.listed u.listed a, ap (λ (x : Sliding). x.words) e)
 
 -- ---- the answer
 

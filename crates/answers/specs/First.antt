@@ -5,14 +5,13 @@
 -- code, which has no `requires`; here stands what it returns and leaves, by its contract, for any arguments.
 --   NoInputStops     the first answer
 -- Assumes nothing.
-use Rattle.std.specs.Prelude.{ℕ, suc, ◌≡◌, true, cond, List, [], ◌∷◌, ℤ, length}
-use Rattle.refusals.specs.Refusals.{OneOf, GivenExactly}
+use Rattle.std.specs.Prelude.{ℕ, suc, ◌≡◌, true, cond, List, [], ◌∷◌, ℤ, Option, length}
+use Rattle.refusals.specs.Refusals.{number_of, OneOf, GivenExactly}
 use Rattle.prefix.specs.declared.Prefix.{Prefix}
 use Rattle.ground.specs.Cells.{in_range}
 use Rattle.records.specs.Layout.{is_table}
 use Rattle.lookup.specs.Walking.{first_refusal, leaves_all}
-use Rattle.listing.specs.Slicing.{number_of_refused, refused_of}
-use Rattle.listing.specs.declared.Resume.{Resume}
+use Rattle.listing.specs.Slicing.{refused_of}
 use Rattle.audit.specs.Checking.{audit_on}
 use Rattle.image_verify.specs.Verifying.{verify_on}
 use Rattle.image_write.specs.Writing.{refusal_of}
@@ -35,8 +34,8 @@ pub record NoInputStops : Type 0 where
       → GivenExactly (first_refusal ws k (length bs)) (0 ∷ 6 ∷ 8 ∷ []) r
   pub remove : {ws bs us after values : List ℕ} {k : Prefix} {r : ℕ} → RemoveOut ws k bs r us after values
       → GivenExactly (first_refusal ws k (length bs)) (0 ∷ 6 ∷ 7 ∷ []) r
-  pub slice : {ws us after values : List ℕ} {from : Resume} {b r : ℕ} → SliceOut ws from b us r after values
-      → GivenExactly (number_of_refused (refused_of (length ws) from b (length us))) (0 ∷ 6 ∷ []) r
+  pub slice : {ws us after values : List ℕ} {from : Option Prefix} {b r : ℕ} → SliceOut ws from b us r after values
+      → GivenExactly (number_of (refused_of (length ws) from b (length us))) (0 ∷ 6 ∷ []) r
   pub check : {ws values : List ℕ} {r : ℕ} → AuditOut ws r values → r ≡ cond (is_table (length ws)) 0 1
   pub image_write : {ws out after values : List ℕ} {epoch r : ℕ} → WriteOut ws epoch out r after values
       → GivenExactly (refusal_of (audit_on ws)) (0 ∷ 5 ∷ []) r
@@ -57,10 +56,10 @@ pub record NoInputStops : Type 0 where
   pub remove_leaves : {ws bs us after values : List ℕ} {k : Prefix} {r : ℕ} → RemoveOut ws k bs r us after values → leaves_all r ≡ true
       → (values ≡ 0 ∷ 0 ∷ []) × (after ≡ bs)
   pub remove_refused : {ws bs us after values : List ℕ} {k : Prefix} {n : ℕ} → RemoveOut ws k bs (suc n) us after values → us ≡ ws
-  pub slice_counts : {ws us after values : List ℕ} {from : Resume} {b n : ℕ} → SliceOut ws from b us (suc n) after values
+  pub slice_counts : {ws us after values : List ℕ} {from : Option Prefix} {b n : ℕ} → SliceOut ws from b us (suc n) after values
       → values ≡ 0 ∷ 0 ∷ 0 ∷ []
-  pub slice_leaves : {ws us after values : List ℕ} {from : Resume} {b r n : ℕ} → SliceOut ws from b us r after values
-      → number_of_refused (refused_of (length ws) from b (length us)) ≡ suc n → after ≡ us
+  pub slice_leaves : {ws us after values : List ℕ} {from : Option Prefix} {b r n : ℕ} → SliceOut ws from b us r after values
+      → number_of (refused_of (length ws) from b (length us)) ≡ suc n → after ≡ us
   pub check_counts : {ws values : List ℕ} {n : ℕ} → AuditOut ws (suc n) values → values ≡ 0 ∷ []
   pub image_counts : {ws out after values : List ℕ} {epoch r n : ℕ} → WriteOut ws epoch out r after values → refusal_of (audit_on ws) ≡ suc n
       → values ≡ 0 ∷ []

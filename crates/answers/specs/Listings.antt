@@ -7,14 +7,14 @@
 --   counts ps       the sum of the counts that the slices returned
 --   outputs ps      the words that the slices gave, one after the other
 -- Assumes nothing.
-use Rattle.std.specs.Prelude.{ℕ, ◌+◌, ◌*◌, ◌≡◌, List, [], ◌∷◌, ◌++◌, get_or, take}
-use Rattle.std.proofs.Math.Option.{Option}
+use Rattle.std.specs.Prelude.{ℕ, ◌+◌, ◌*◌, ◌≡◌, List, [], ◌∷◌, ◌++◌, Option, get_or, take}
+use Rattle.std.proofs.Math.Option as maps
 use Rattle.bits.specs.Bits.{Bits}
+use Rattle.prefix.specs.declared.Prefix.{Prefix}
 use Rattle.zones.specs.Maps.{Map}
 use Rattle.zones.specs.Listings.{Turn, next}
 use Rattle.records.specs.Holds.{Holds}
 use Rattle.listing.specs.Slicing.{resume_of}
-use Rattle.listing.specs.declared.Resume.{Resume}
 use Rattle.nalfipode.specs.Slices.{SliceOut}
 
 -- "Edits may come between slices": each has its own table
@@ -22,7 +22,7 @@ pub record Page : Type 0 where
   pub table : List ℕ
   pub stored : Map
   pub holds : Holds table stored
-  pub resume : Resume
+  pub resume : Option Prefix
   pub size : ℕ
   pub output : List ℕ
   pub after : List ℕ
@@ -37,7 +37,7 @@ turns_of [] = []
 turns_of (p ∷ ps) = turn_of p ∷ turns_of ps
 
 -- "each slice resuming at the last prefix given"
-abbrev pub Follows : Option Bits → List Page → Type 0
+abbrev pub Follows : maps.Option Bits → List Page → Type 0
 Follows o [] = Unit {0}
 Follows o (p ∷ ps) = (resume_of p.resume ≡ o) × Follows (next o (turn_of p)) ps
 

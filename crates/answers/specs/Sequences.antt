@@ -4,6 +4,7 @@
 --   Ran ws cs ts    the calls cs, one after the other from the words ws on, tell ts
 --   map_tells c m cs   what the map m tells, in a table of c records
 -- Assumes nothing.
+use Rattle.refusals.specs.Refusals.{number_of}
 use Rattle.std.specs.Prelude.{ℕ, cond, List, [], ◌∷◌}
 use Rattle.prefix.specs.Keys.{string_of}
 use Rattle.prefix.specs.declared.Prefix.{Prefix}
@@ -45,11 +46,11 @@ told number_of values_of a = record { number = number_of a; values = values_of a
 -- (a store that the table has no room for is Full, and leaves the map)
 abbrev pub map_tells : ℕ → Map → List Call → List Told
 map_tells c m [] = []
-map_tells c m (fetch k ∷ cs) = told fetching.number_of fetching.values_of (fetching.gives (nodes_for m k) (get (string_of k) m)) ∷ map_tells c m cs
+map_tells c m (fetch k ∷ cs) = told number_of fetching.values_of (fetching.gives (nodes_for m k) (get (string_of k) m)) ∷ map_tells c m cs
 map_tells c m (longest k ∷ cs) =
-    told matching.number_of matching.values_of (matching.gives (nodes_for m k) (longest_match (string_of k) m)) ∷ map_tells c m cs
+    told number_of matching.values_of (matching.gives (nodes_for m k) (longest_match (string_of k) m)) ∷ map_tells c m cs
 map_tells c m (remove k ∷ cs) =
-    told removing.number_of removing.values_of (removing.gives (nodes_for m k) (get (string_of k) m)) ∷ map_tells c (without (string_of k) m) cs
+    told number_of removing.values_of (removing.gives (nodes_for m k) (get (string_of k) m)) ∷ map_tells c (without (string_of k) m) cs
 map_tells c m (store k z ∷ cs) =
-    told storing.number_of storing.values_of (storing.gives (overflows c (entry_of k z) m) (nodes_for m k) (get (string_of k) m))
+    told number_of storing.values_of (storing.gives (overflows c (entry_of k z) m) (nodes_for m k) (get (string_of k) m))
     ∷ map_tells c (cond (overflows c (entry_of k z) m) m (put (entry_of k z) m)) cs

@@ -5,7 +5,7 @@
 --   Changes ws us r     an edit that returned r changes at most three node records, a refused one none
 --   WorkIsBounded       the third answer
 -- Assumes nothing.
-use Rattle.std.specs.Prelude.{ℕ, suc, ◌+◌, ◌*◌, ◌≤◌, ◌≡◌, length, get_or, take}
+use Rattle.std.specs.Prelude.{ℕ, suc, ◌+◌, ◌*◌, ◌≤◌, ◌≡◌, Option, length, get_or, take}
 use mathlib.Core.List.{List, [], ◌∷◌, Memᴰ}
 use Rattle.std.proofs.Math.Option.{none}
 use Rattle.prefix.specs.Keys.{string_of}
@@ -18,7 +18,6 @@ use Rattle.lookup.specs.Paths.{Agree, path_links}
 use Rattle.plans.specs.Limits.{ThreeRecords}
 use Rattle.edits.specs.Resting.{SameEdit, edit_links}
 use Rattle.listing.specs.Resting.{slice_links}
-use Rattle.listing.specs.declared.Resume.{Resume}
 use Rattle.nalfipode.specs.Changes.{StoreOut, RemoveOut}
 use Rattle.nalfipode.specs.Reads.{FetchOut, LongestMatchOut}
 use Rattle.nalfipode.specs.Slices.{SliceOut}
@@ -53,7 +52,7 @@ pub record WorkIsBounded : Type 0 where
   pub ageless : {m : Map} {k : Prefix} {bs values told after later : List ℕ} → Reports m k bs values after → Reports m k bs told later
       → (take 1 values ≡ take 1 told) × (after ≡ later)
   -- ---- a slice, and "A whole listing of an unchanged table": "each node once plus the search path of each resume"
-  pub slice : {ws us after values : List ℕ} {m : Map} {from : Resume} {b : ℕ} → Holds ws m → SliceOut ws from b us 0 after values
+  pub slice : {ws us after values : List ℕ} {m : Map} {from : Option Prefix} {b : ℕ} → Holds ws m → SliceOut ws from b us 0 after values
       → get_or values 2 0 ≤ 129 + 129 * b
   pub listing : (m : Map) (ps : List Page) → Follows none ps → Ended ps → ((p : Page) → Memᴰ p ps → p.stored ≡ m)
       → counts ps ≡ length (nodes (keys m)) + pathed none (turns_of ps)
@@ -70,6 +69,6 @@ pub record WorkIsBounded : Type 0 where
   pub remove_rests : {ws us bs wt ut after later values told : List ℕ} {m : Map} {k : Prefix} {r q : ℕ} (h : Holds ws m)
       → Agree us ws (path_links h.tree (string_of k)) → RemoveOut ws k bs r wt after values → RemoveOut us k bs q ut later told
       → (values ≡ told) × SameEdit us ws (record { answer = q; bytes = later; words = ut }) (record { answer = r; bytes = after; words = wt })
-  pub slice_rests : {ws us vs after later values told : List ℕ} {m : Map} {from : Resume} {b r q : ℕ} (h : Holds ws m)
+  pub slice_rests : {ws us vs after later values told : List ℕ} {m : Map} {from : Option Prefix} {b r q : ℕ} (h : Holds ws m)
       → Agree us ws (slice_links h.tree from b) → SliceOut ws from b vs r after values → SliceOut us from b vs q later told
       → (r ≡ q) × (values ≡ told) × (after ≡ later)

@@ -10,7 +10,8 @@ use mathlib.Core.Path.{◌≡◌, refl, ap, ◌∙◌}
 use mathlib.Core.Bool.{Bool, true, false, cond}
 use mathlib.Core.List.Memᴰ
 use mathlib.Core.List.{List, [], ◌∷◌, ◌++◌}
-use mathlib.Core.Option.{Option}
+use mathlib.Core.Option as maps
+use Rattle.std.specs.Prelude.{Option, None, Some}
 use lib.Dec.{eqb}
 use lib.ListN.{length, length-append}
 use borrow.Author.Tests.{eqb-true, eqb-false, eq-eqb, ne_eqb}
@@ -23,11 +24,7 @@ use Rattle.records.specs.Layout.{room_of, record_at, key_of, zone_of}
 use Rattle.records.specs.Holds.{labels, Bears, Linked}
 use Rattle.records.specs.declared.Record.{Record}
 use Rattle.records.proofs.LayoutLaws.{room_of_true}
-use Rattle.audit.specs.Checking.{stem, is_node, then_on, below_on}
-use Rattle.audit.specs.declared.Place.{Place}
-use Rattle.audit.specs.declared.Place.TheVariants.{Under}
-use Rattle.audit.specs.declared.Counted.{Counted}
-use Rattle.audit.specs.declared.Counted.TheVariants.{Left, Bad}
+use Rattle.audit.specs.Checking.{Place, under, stem, is_node, then_on, below_on}
 use Rattle.audit.proofs.NodeLaws.{Rooms, rooms_cons, rooms-append, linked_full, branches_true, is_node_true, linked-is_node}
 
 -- ---- Below
@@ -39,7 +36,7 @@ pub record Below (ws : List ℕ) (l : ℕ) (p : Bits) (left n : ℕ) : Type 0 wh
   pub rooms : Rooms ws (labels tree)
   pub count : length (labels tree) + n ≡ left
 
-below-tip : (ws : List ℕ) (l : ℕ) (p : Bits) (left n : ℕ) → l ≡ 0 → Left left ≡ Left n → Below ws l p left n
+below-tip : (ws : List ℕ) (l : ℕ) (p : Bits) (left n : ℕ) → l ≡ 0 → Some left ≡ Some n → Below ws l p left n
 below-tip ws l p left n e h =
     let q : left ≡ n = cc in
     record { tree = tip; good = tt; linked = e; rooms = λ a i. absurd (Memᴰ.not-nil i); count = omega arith }
@@ -48,11 +45,11 @@ module _ (ws : List ℕ) (l : ℕ) (at : Place) (left m n : ℕ) where
   abbrev here : Record
   here = record_at ws l
 
-  abbrev under : Bool → Bits
-  under x = stem (Under (key_of here) x)
+  abbrev stem_of : Bool → Bits
+  stem_of x = stem (under here x)
 
   below_node : is_node here at ≡ true → room_of (length ws) l ≡ true → 0 < left
-      → Below ws here.left (under false) (left - 1) m → Below ws here.right (under true) m n → Below ws l (stem at) left n
+      → Below ws here.left (stem_of false) (left - 1) m → Below ws here.right (stem_of true) m n → Below ws l (stem at) left n
   below_node h room more x y =
       let i = is_node_true here at h in
       let f = linked_full (record_at ws) here.left x.tree x.linked in
@@ -67,32 +64,29 @@ module _ (ws : List ℕ) (l : ℕ) (at : Place) (left m n : ℕ) where
         count = omega (arith, length-append ls rs, x.count, y.count);
       }
 
--- ---- below_on, where it is not Bad
+-- ---- below_on, where it is Some
 
-bad_left : (A : Type 0) (n : ℕ) → Bad ≡ Left n → A
-bad_left A n h = let z : ◌≡◌ {A = ℕ} 0 1 = cc in absurd (omega arith)
-
-when_left : (b : Bool) (c : Counted) (n : ℕ) → cond b c Bad ≡ Left n → (b ≡ true) × (c ≡ Left n)
+when_left : (b : Bool) (c : Option ℕ) (n : ℕ) → cond b c None ≡ Some n → (b ≡ true) × (c ≡ Some n)
 when_left true c n h = (refl, h)
-when_left false c n h = bad_left ((false ≡ true) × (c ≡ Left n)) n h
+when_left false c n h = cc
 
-unless_left : (b : Bool) (c : Counted) (n : ℕ) → cond b Bad c ≡ Left n → (b ≡ false) × (c ≡ Left n)
-unless_left true c n h = bad_left ((true ≡ false) × (c ≡ Left n)) n h
+unless_left : (b : Bool) (c : Option ℕ) (n : ℕ) → cond b None c ≡ Some n → (b ≡ false) × (c ≡ Some n)
+unless_left true c n h = cc
 unless_left false c n h = (refl, h)
 
-then_on_left : (c : Counted) (go : ℕ → Counted) (n : ℕ) → then_on c go ≡ Left n → (m : ℕ) × (c ≡ Left m) × (go m ≡ Left n)
-then_on_left Bad go n h = bad_left ((m : ℕ) × (Bad ≡ Left m) × (go m ≡ Left n)) n h
-then_on_left (Left m) go n h = (m, refl, h)
+then_on_left : (c : Option ℕ) (go : ℕ → Option ℕ) (n : ℕ) → then_on c go ≡ Some n → (m : ℕ) × (c ≡ Some m) × (go m ≡ Some n)
+then_on_left None go n h = cc
+then_on_left (Some m) go n h = (m, refl, h)
 
-below_on_left_at : (ws : List ℕ) (l : ℕ) (p : Bits) (left n : ℕ) (c : Counted) (b : Bool) → eqb l 0 ≡ b → cond b (Left left) c ≡ Left n
-    → (c ≡ Left n → Below ws l p left n) → Below ws l p left n
+below_on_left_at : (ws : List ℕ) (l : ℕ) (p : Bits) (left n : ℕ) (c : Option ℕ) (b : Bool) → eqb l 0 ≡ b → cond b (Some left) c ≡ Some n
+    → (c ≡ Some n → Below ws l p left n) → Below ws l p left n
 below_on_left_at ws l p left n c true e h go = below-tip ws l p left n (eqb-true l 0 e) h
 below_on_left_at ws l p left n c false e h go = go h
 
-pub below_on_left : (f : ℕ) (ws : List ℕ) (l : ℕ) (at : Place) (left n : ℕ) → below_on f ws l at left ≡ Left n → Below ws l (stem at) left n
+pub below_on_left : (f : ℕ) (ws : List ℕ) (l : ℕ) (at : Place) (left n : ℕ) → below_on f ws l at left ≡ Some n → Below ws l (stem at) left n
 unfolding below_on
 below_on_left zero ws l at left n h =
-    below_on_left_at ws l (stem at) left n Bad (eqb l 0) refl h (bad_left (Below ws l (stem at) left n) n)
+    below_on_left_at ws l (stem at) left n None (eqb l 0) refl h (λ i. cc)
 below_on_left (suc f) ws l at left n h =
     below_on_left_at ws l (stem at) left n _ (eqb l 0) refl h
     (λ i. let more = unless_left (eqb left 0) _ n i in
@@ -113,18 +107,18 @@ pub record Passes (ws : List ℕ) (t : Tree ℕ) (f l : ℕ) (at : Place) (left 
   pub fuel : 130 ≤ length (stem at) + f
   pub enough : length (labels t) ≤ left
 
-length-bears : (r : Record) (s : Bits) (v : Option ℕ) → Bears r s v → length s ≤ 128
+length-bears : (r : Record) (s : Bits) (v : maps.Option ℕ) → Bears r s v → length s ≤ 128
 length-bears r s v b = omega (arith, b.valid.narrow, length-string_of (key_of r) b.valid.narrow, ap length b.string)
 
-below_on_end : (f : ℕ) (ws : List ℕ) (l : ℕ) (at : Place) (left : ℕ) → l ≡ 0 → below_on f ws l at left ≡ Left left
+below_on_end : (f : ℕ) (ws : List ℕ) (l : ℕ) (at : Place) (left : ℕ) → l ≡ 0 → below_on f ws l at left ≡ Some left
 unfolding below_on
 below_on_end zero ws l at left e = rw (eq-eqb l 0 e)
 below_on_end (suc f) ws l at left e = rw (eq-eqb l 0 e)
 
-module _ {ws : List ℕ} {a f : ℕ} {s : Bits} {v : Option ℕ} {x y : Tree ℕ} {l : ℕ} {at : Place} {left : ℕ}
+module _ {ws : List ℕ} {a f : ℕ} {s : Bits} {v : maps.Option ℕ} {x y : Tree ℕ} {l : ℕ} {at : Place} {left : ℕ}
     (h : Passes ws (node a s v x y) (suc f) l at left) where
   abbrev side : Bool → Place
-  side c = Under (key_of (record_at ws a)) c
+  side = under (record_at ws a)
 
   rooms_left : Rooms ws (labels x)
   rooms_left b i = h.rooms b (Memᴰ.tail (Memᴰ.append_left (labels y) i))
@@ -164,11 +158,11 @@ module _ {ws : List ℕ} {a f : ℕ} {s : Bits} {v : Option ℕ} {x y : Tree ℕ
       (omega (arith, h.enough, length-append (labels x) (labels y)))
 
 pub below_on-linked : {ws : List ℕ} (t : Tree ℕ) (f : ℕ) {l : ℕ} {at : Place} {left : ℕ} → Passes ws t f l at left
-    → below_on f ws l at left ≡ Left (left - length (labels t))
-below_on-linked {ws} tip f {l} {at} {left} h = below_on_end f ws l at left h.linked ∙ ap Left (omega arith)
+    → below_on f ws l at left ≡ Some (left - length (labels t))
+below_on-linked {ws} tip f {l} {at} {left} h = below_on_end f ws l at left h.linked ∙ ap Some (omega arith)
 below_on-linked {ws} (node a s v x y) zero {l} {at} h =
     absurd (omega (arith, h.fuel, is_prefix_length (stem at) s h.good.0, length-bears (record_at ws a) s v h.linked.1))
 below_on-linked (node a s v x y) (suc f) h =
     below_on_node h
     ∙ rw (below_on-linked x f (passes_left h))
-    (below_on-linked y f (passes_right h) ∙ ap Left (omega (arith, h.enough, length-append (labels x) (labels y))))
+    (below_on-linked y f (passes_right h) ∙ ap Some (omega (arith, h.enough, length-append (labels x) (labels y))))

@@ -9,6 +9,7 @@ use mathlib.Core.Path.{◌≡◌, refl, ap, ap₂, ◌∙◌}
 use mathlib.Core.Bool.{Bool, true, false, cond}
 use mathlib.Core.List.{List, [], ◌∷◌, ◌++◌, map, map-append, Memᴰ}
 use mathlib.Core.Logic.{inl, inr}
+use Rattle.std.specs.Prelude.{Option, None, Some, Ok, Err}
 use lib.Dec.{eqb}
 use lib.ListN.{length, length-append}
 use borrow.Author.Tests.{eqb-true}
@@ -17,6 +18,7 @@ use Rattle.bits.specs.Bits.{Bits, equal}
 use Rattle.bits.proofs.ListsLaws.{mem-map}
 use Rattle.bits.proofs.BitsLaws.{eq-equal}
 use Rattle.bits.proofs.RisingLaws.{length-keep-equal}
+use Rattle.refusals.specs.declared.Refusal.TheVariants.{BadLength}
 use Rattle.prefix.specs.Keys.{string_of, Valid}
 use Rattle.zones.specs.Maps.{Map}
 use Rattle.zones.specs.Tree.{Tree, tip, node, Good, entries}
@@ -29,11 +31,6 @@ use Rattle.records.proofs.LayoutLaws.{Table, is_table_true, capacity-table_lengt
 use Rattle.records.proofs.OnceLaws.{times-append, times_mem, once_full, length_once}
 use Rattle.records.proofs.HoldsLaws.{is_table_holds, labels-room, chain-room}
 use Rattle.audit.specs.Checking.{chain_on, below_on, audit_of, audit_on}
-use Rattle.audit.specs.declared.Place.TheVariants.{Top}
-use Rattle.audit.specs.declared.Counted.{Counted}
-use Rattle.audit.specs.declared.Counted.TheVariants.{Left, Bad}
-use Rattle.audit.specs.declared.Audited.{Audited}
-use Rattle.audit.specs.declared.Audited.TheVariants.{Yes, No, BadLength}
 use Rattle.audit.proofs.NodeLaws.{rooms-append}
 use Rattle.audit.proofs.BelowLaws.{Below, below_on_left, Passes, below_on-linked}
 use Rattle.audit.proofs.ChainLaws.{Spares, chain_on_true, chained-chain_on, chained_spare, times-chained}
@@ -147,36 +144,30 @@ module _ (ws : List ℕ) (n : ℕ) (table : Table (length ws)) (x : Below ws (he
 
 -- ---- audit_on
 
-cond_yes : (b : Bool) (x y : Audited) → (y ≡ Yes → ⊥) → cond b x y ≡ Yes → (b ≡ true) × (x ≡ Yes)
-cond_yes true x y n h = (refl, h)
-cond_yes false x y n h = absurd (n h)
+length_yes : (b x : Bool) → cond b (Ok x) (Err BadLength) ≡ Ok true → (b ≡ true) × (x ≡ true)
+length_yes true x h = (refl, cc)
+length_yes false x h = cc
 
-no_yes : No ≡ Yes → ⊥
-no_yes h = let z : ◌≡◌ {A = ℕ} 0 1 = cc in omega arith
+audit_of_yes : (ws : List ℕ) (c : Option ℕ) → audit_of ws c ≡ true → (n : ℕ) × (c ≡ Some n) × (chain_on ws (header_at ws).spare n ≡ true)
+audit_of_yes ws None h = cc
+audit_of_yes ws (Some n) h = (n, refl, h)
 
-bad_length_yes : BadLength ≡ Yes → ⊥
-bad_length_yes h = let z : ◌≡◌ {A = ℕ} 0 1 = cc in omega arith
-
-audit_of_yes : (ws : List ℕ) (c : Counted) → audit_of ws c ≡ Yes → (n : ℕ) × (c ≡ Left n) × (chain_on ws (header_at ws).spare n ≡ true)
-audit_of_yes ws Bad h = absurd (no_yes h)
-audit_of_yes ws (Left n) h = (n, refl, (cond_yes (chain_on ws (header_at ws).spare n) Yes No no_yes h).0)
-
-pub audit_on_yes : (ws : List ℕ) → audit_on ws ≡ Yes → (m : Map) × Holds ws m
+pub audit_on_yes : (ws : List ℕ) → audit_on ws ≡ Ok true → (m : Map) × Holds ws m
 unfolding audit_on
 audit_on_yes ws h =
-    let c = below_on 130 ws (header_at ws).root Top (capacity (length ws)) in
-    let i = cond_yes (is_table (length ws)) (audit_of ws c) BadLength bad_length_yes h in
+    let c = below_on 130 ws (header_at ws).root None (capacity (length ws)) in
+    let i = length_yes (is_table (length ws)) (audit_of ws c) h in
     let j = audit_of_yes ws c i.1 in
-    let x = below_on_left 130 ws (header_at ws).root Top (capacity (length ws)) j.0 j.1 in
+    let x = below_on_left 130 ws (header_at ws).root None (capacity (length ws)) j.0 j.1 in
     (entries x.tree, holds-passed ws j.0 (is_table_true (length ws) i.0) x (chain_on_true ws j.0 (header_at ws).spare j.2))
 
-pub audit_on_holds : (ws : List ℕ) (m : Map) → Holds ws m → audit_on ws ≡ Yes
+pub audit_on_holds : (ws : List ℕ) (m : Map) → Holds ws m → audit_on ws ≡ Ok true
 unfolding audit_on
 audit_on_holds ws m h =
     let c : capacity (length ws) ≡ h.records = ap capacity h.length_is ∙ capacity-table_length h.records in
     let n : length (labels h.tree) + length h.chain ≡ h.records =
     rw (← length-append) (length_once h.records (labels h.tree ++ h.chain) h.once) in
-    let p : Passes ws h.tree 130 (header_at ws).root Top (capacity (length ws)) =
+    let p : Passes ws h.tree 130 (header_at ws).root None (capacity (length ws)) =
     record { good = h.good; linked = h.linked; rooms = labels-room h; fuel = omega arith; enough = omega arith } in
     let left : capacity (length ws) - length (labels h.tree) ≡ length h.chain = omega arith in
     rw (

@@ -10,7 +10,7 @@ use mathlib.Core.Logic.{inl, inr}
 use mathlib.Core.Bool.{Bool, true, false, ◌&&◌, ◌||◌, cond}
 use mathlib.Core.List.Memᴰ
 use mathlib.Core.List.{List, ◌∷◌, ◌++◌, Memᴰ}
-use mathlib.Core.Option.{Option, none, some}
+use mathlib.Core.Option as maps
 use lib.Dec.{T, ltb}
 use lib.ListN.{length}
 use borrow.Author.Tests.{ltb-true, lt-ltb}
@@ -24,8 +24,7 @@ use Rattle.records.specs.Layout.{room_of, key_of, zone_of}
 use Rattle.records.specs.Holds.{Memory, labels, Bears, Linked}
 use Rattle.records.specs.declared.Record.{Record}
 use Rattle.records.proofs.LayoutLaws.{room_of_true}
-use Rattle.audit.specs.Checking.{stem, stands, is_node}
-use Rattle.audit.specs.declared.Place.{Place}
+use Rattle.audit.specs.Checking.{Place, stem, stands, is_node}
 
 -- ---- Rooms
 
@@ -61,7 +60,7 @@ module _ (r : Record) (x y : Tree ℕ) where
   unfolding zone_of
   branches_true f g = at (odd r.tag)
     where
-      at : (b : Bool) → T (b || (ltb 0 r.left && ltb 0 r.right)) → Branch (cond b (some r.zone) none) x y
+      at : (b : Bool) → T (b || (ltb 0 r.left && ltb 0 r.right)) → Branch (cond b (maps.some r.zone) maps.none) x y
       at true h = tt
       at false h = (f (and_left (ltb 0 r.left) (ltb 0 r.right) h), g (and_right (ltb 0 r.left) (ltb 0 r.right) h))
 
@@ -69,7 +68,7 @@ module _ (r : Record) (x y : Tree ℕ) where
   unfolding zone_of
   branch-branches f g = at (odd r.tag)
     where
-      at : (b : Bool) → Branch (cond b (some r.zone) none) x y → T (b || (ltb 0 r.left && ltb 0 r.right))
+      at : (b : Bool) → Branch (cond b (maps.some r.zone) maps.none) x y → T (b || (ltb 0 r.left && ltb 0 r.right))
       at true h = tt
       at false h = and_both (ltb 0 r.left) (ltb 0 r.right) (f h.0) (g h.1)
 
@@ -85,13 +84,13 @@ is_node_true r at e =
     let i = and_right v (p && branches r) h in
     (is_valid_true (key_of r) (T_true v (and_left v (p && branches r) h)), and_left p (branches r) i, and_right p (branches r) i)
 
-bears-is_node : (r : Record) (s : Bits) (v : Option ℕ) (at : Place) → Bears r s v → T (is_prefix (stem at) s) → T (branches r)
+bears-is_node : (r : Record) (s : Bits) (v : maps.Option ℕ) (at : Place) → Bears r s v → T (is_prefix (stem at) s) → T (branches r)
     → is_node r at ≡ true
 unfolding is_node stands
 bears-is_node r s v at b p h =
     rw (valid-is_valid (key_of r) b.valid, b.string, T_true (is_prefix (stem at) s) p) (T_true (branches r) h)
 
-module _ (ws : List ℕ) (mem : Memory) (a : ℕ) (s : Bits) (v : Option ℕ) (x y : Tree ℕ) where
+module _ (ws : List ℕ) (mem : Memory) (a : ℕ) (s : Bits) (v : maps.Option ℕ) (x y : Tree ℕ) where
   -- a node of a linked tree passes
   pub linked-is_node : (l : ℕ) (at : Place) → Linked mem l (node a s v x y) → Rooms ws (labels x) → Rooms ws (labels y)
       → T (is_prefix (stem at) s) → Branch v x y → is_node (mem a) at ≡ true

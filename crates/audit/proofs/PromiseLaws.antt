@@ -1,42 +1,48 @@
--- The law that makes the contract of `audit` of its answer. No contract cites this file.
+-- The laws that make the contract of `audit` of its answer. No contract cites this file.
 -- Assumes nothing.
 use Prim.Native.Nat.{ℕ}
 use mathlib.Core.Path.{◌≡◌, refl, sym, subst, ◌∙◌}
 use mathlib.Core.Bool.{Bool, true, false, cond}
 use mathlib.Core.List.{List}
+use Rattle.std.specs.Prelude.{Result, Ok, Err}
 use lib.ListN.{length}
-use Rattle.records.specs.Layout.{is_table, capacity, header_at}
-use Rattle.audit.specs.Checking.{below_on, chain_on, audit_of, audit_on, number_of, Check}
-use Rattle.audit.specs.declared.Place.TheVariants.{Top}
-use Rattle.audit.specs.declared.Counted.{Counted}
-use Rattle.audit.specs.declared.Counted.TheVariants.{Left, Bad}
-use Rattle.audit.specs.declared.Audited.{Audited}
-use Rattle.audit.specs.declared.Audited.TheVariants.{Yes, No, BadLength}
+use Rattle.refusals.specs.Refusals.{number_of}
+use Rattle.refusals.specs.declared.Refusal.{Refusal}
+use Rattle.refusals.specs.declared.Refusal.TheVariants.{BadLength}
+use Rattle.records.specs.Layout.{is_table}
+use Rattle.audit.specs.Checking.{audit_on, Check}
 use Rattle.audit.proofs.HoldsLaws.{audit_on_yes, audit_on_holds}
 
--- yes and no have the number 0
-audit_of-number : (ws : List ℕ) (x : Counted) → number_of (audit_of ws x) ≡ 0
-audit_of-number ws Bad = refl
-audit_of-number ws (Left n) = at (chain_on ws (header_at ws).spare n)
-  where
-    at : (b : Bool) → number_of (cond b Yes No) ≡ 0
-    at true = refl
-    at false = refl
-
 -- the number is 1 exactly for a length that no table has
-abbrev Numbered : Bool → Audited → Type 0
+abbrev Numbered : Bool → Result Bool Refusal → Type 0
 Numbered b r = (number_of r ≡ 1 → b ≡ false) × (b ≡ false → number_of r ≡ 1)
 
 audit_on-number : (ws : List ℕ) → Numbered (is_table (length ws)) (audit_on ws)
 unfolding audit_on
-audit_on-number ws =
-    at (is_table (length ws)) (below_on 130 ws (header_at ws).root Top (capacity (length ws)))
+audit_on-number ws = at (is_table (length ws)) _
   where
-    at : (b : Bool) (x : Counted) → Numbered b (cond b (audit_of ws x) BadLength)
+    at : (b x : Bool) → Numbered b (cond b (Ok x) (Err BadLength))
     at false x = (λ h. refl, λ h. refl)
-    at true x = (λ h. let z : ◌≡◌ {A = ℕ} 0 1 = sym (audit_of-number ws x) ∙ h in cc, λ h. cc)
+    at true x = (λ h. cc, λ h. cc)
 
-pub check-promise : (ws : List ℕ) (r : Audited) → r ≡ audit_on ws → Check ws r
+pub number-audit_on : (ws : List ℕ) → number_of (audit_on ws) ≡ cond (is_table (length ws)) 0 1
+unfolding audit_on
+number-audit_on ws = at (is_table (length ws)) _
+  where
+    at : (b x : Bool) → number_of (cond b (Ok x) (Err BadLength)) ≡ cond b 0 1
+    at false x = refl
+    at true x = refl
+
+-- no other refusal is given
+pub audit_on_refused : (ws : List ℕ) (e : Refusal) → audit_on ws ≡ Err e → e ≡ BadLength
+unfolding audit_on
+audit_on_refused ws e = at (is_table (length ws)) _
+  where
+    at : (b x : Bool) → cond b (Ok x) (Err BadLength) ≡ Err e → e ≡ BadLength
+    at false x h = cc
+    at true x h = cc
+
+pub check-promise : (ws : List ℕ) (r : Result Bool Refusal) → r ≡ audit_on ws → Check ws r
 check-promise ws r e =
     record {
       answer = e;
@@ -46,5 +52,5 @@ check-promise ws r e =
     }
 
 -- the promise admits one answer, on any words
-pub check_single : (ws : List ℕ) (r q : Audited) → Check ws r → Check ws q → r ≡ q
+pub check_single : (ws : List ℕ) (r q : Result Bool Refusal) → Check ws r → Check ws q → r ≡ q
 check_single ws r q x y = x.answer ∙ sym y.answer

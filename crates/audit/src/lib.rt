@@ -11,104 +11,75 @@ ghost use Rattle.audit.specs.Bounds.{low_of};
 
 use prefix::Prefix;
 use records::Record;
+use refusals::Refusal;
 
-// The answer: the words are a table, or they are not.
+// Where a node below the top stands: under a node with this key, on the side of this bit.
 #[derive(Clone, Copy)]
-pub enum Audited {
-    Yes,
-    No,
-    BadLength,
-}
-
-// Where a node stands: at the top, or under a node on the side of a bit.
-#[derive(Clone, Copy)]
-pub enum Place {
-    Top,
-    Under(Prefix, bool),
-}
-
-// What counting comes to: how many records are left, or words that no table has.
-#[derive(Clone, Copy)]
-pub enum Counted {
-    Left(u32),
-    Bad,
+struct Under {
+    key: Prefix,
+    side: bool,
 }
 
 // Whether the words are a table of some map.
-pub fn audit(table: &[u32]) -> Audited
+pub fn audit(table: &[u32]) -> Result<bool, Refusal>
     ensures { Check table.now result }
 {
     if !records::is_table(table.len()) {
-        return Audited::BadLength;
+        return Err(Refusal::BadLength);
     }
     let h = records::read_header(table);
     let c = table.len() / records::RECORD - 1;
-    let x = below(table, h.root, Place::Top, c as u32);
-    match x {
-        Counted::Bad => Audited::No,
-        Counted::Left(n) => {
-            if chain(table, h.spare, n) {
-                return Audited::Yes;
-            }
-            Audited::No
-        }
+    match below(table, h.root, None, c as u32) {
+        None => Ok(false),
+        Some(n) => Ok(chain(table, h.spare, n)),
     }
 }
 
-// The nodes from the link l down, of which there may be `left`.
-fn below(table: &[u32], l: u32, at: Place, left: u32) -> Counted
+// The nodes from the link l down, of which there may be `left`: how many records are then left, or
+// None for words that no table has.
+// What it asks of the place stays a clause, in three contracts: the definition makes a place below any record,
+// however wide its key.
+fn below(table: &[u32], l: u32, at: Option<Under>, left: u32) -> Option<u32>
     requires { low_of at ≤ 129 }
     ensures { (f : ℕ) → 130 ≤ low_of at + f → below_on f table.now l at left ≡ result }
 {
     if l == 0 {
-        return Counted::Left(left);
+        return Some(left);
     }
-    if left == 0 {
-        return Counted::Bad;
-    }
-    if !records::has_room(table.len(), l) {
-        return Counted::Bad;
+    if left == 0 || !records::has_room(table.len(), l) {
+        return None;
     }
     let r = records::read_record(table, l);
     if !is_node(r, at) {
-        return Counted::Bad;
+        return None;
     }
-    let k = records::key_of(r);
-    let x = below(table, r.left, Place::Under(k, false), left - 1);
-    match x {
-        Counted::Bad => Counted::Bad,
-        Counted::Left(n) => below(table, r.right, Place::Under(k, true), n),
-    }
+    let key = records::key_of(r);
+    let n = below(table, r.left, Some(Under { key, side: false }), left - 1)?;
+    below(table, r.right, Some(Under { key, side: true }), n)
 }
 
 // The record is a node that may stand there: its key is valid, begins as the place says, and it
 // stores a zone or has both sides.
-fn is_node(r: Record, at: Place) -> bool
+#[tactic(auto, unfolding(crate::specs::Checking::is_node))]
+fn is_node(r: Record, at: Option<Under>) -> bool
     requires { low_of at ≤ 129 }
     ensures { result ≡ is_node r at }
 {
     let k = records::key_of(r);
-    if !prefix::valid(k) {
-        return false;
-    }
-    if !stands(k, at) {
-        return false;
-    }
-    (r.tag % 2 == 1) | ((0 < r.left) & (0 < r.right))
+    prefix::valid(k) && stands(k, at) && (r.tag % 2 == 1 || (0 < r.left && 0 < r.right))
 }
 
 // The key begins as the place says.
-fn stands(k: Prefix, at: Place) -> bool
+fn stands(k: Prefix, at: Option<Under>) -> bool
     requires { Valid k × (low_of at ≤ 129) }
     ensures { result ≡ stands_of k at }
 {
     match at {
-        Place::Top => true,
-        Place::Under(p, x) => {
-            if p.width < k.width {
-                return prefix::begins(k, p) & (prefix::bit(k, p.width) == x);
-            }
-            false
+        None => true,
+        Some(p) => {
+            p.key.width < k.width
+                && prefix::begins(k, p.key)
+                && prefix::bit(k, p.key.width) == p.side
         }
     }
 }
@@ -118,20 +89,15 @@ fn chain(table: &[u32], l: u32, left: u32) -> bool
     ensures { result ≡ chain_on table.now l left }
 {
     let mut at = l;
-    let mut n = left;
-    while at != 0 {
-        if n == 0 {
-            return false;
-        }
+    for _ in 0..left {
         if !records::has_room(table.len(), at) {
-            return false;
+            return false; // a link outside, or the chain ends too early
         }
         let r = records::read_record(table, at);
         if r.tag != records::SPARE {
             return false;
         }
         at = r.left;
-        n -= 1;
     }
-    n == 0
+    at == 0
 }

@@ -8,9 +8,9 @@ use mathlib.Core.Bool.{Bool, true, false, not}
 use mathlib.Core.List.{[], ◌∷◌, ◌++◌}
 use lib.Dec.{T, eqb, eqb-zero-suc, eqb-suc-suc}
 use lib.ListN.{length, take}
+use Rattle.std.specs.declared.cmp.Ordering.TheVariants.{Equal}
+use Rattle.std.specs.Ordering.{ordering_reverse}
 use Rattle.bits.specs.Bits.{Bits, is_prefix, lcp, order, before, equal}
-use Rattle.bits.specs.declared.Order.{Order}
-use Rattle.bits.specs.declared.Order.TheVariants.{Before, Same, After}
 
 -- ---- is_prefix
 
@@ -213,18 +213,12 @@ is_prefix-lcp (true ∷ p) (true ∷ k) = eqb-suc-suc (length (lcp k p)) (length
 
 -- ---- order
 
-pub order_refl : (p : Bits) → order p p ≡ Same
+pub order_refl : (p : Bits) → order p p ≡ Equal
 order_refl [] = refl
 order_refl (false ∷ p) = order_refl p
 order_refl (true ∷ p) = order_refl p
 
--- the other way round
-abbrev pub flip : Order → Order
-flip Before = After
-flip Same = Same
-flip After = Before
-
-pub order_flip : (p q : Bits) → order q p ≡ flip (order p q)
+pub order_flip : (p q : Bits) → order q p ≡ ordering_reverse (order p q)
 order_flip [] [] = refl
 order_flip [] (y ∷ q) = refl
 order_flip (x ∷ p) [] = refl

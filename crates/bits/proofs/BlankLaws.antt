@@ -7,14 +7,14 @@ use native.Mathlib.Omega.{arith}
 use mathlib.Core.Path.{◌≡◌, refl, sym, ap, ap₂, ◌∙◌, subst}
 use mathlib.Core.Bool.{Bool, true, false, ◌&&◌, true≢false}
 use mathlib.Core.List.{[], ◌∷◌, ◌++◌}
-use lib.Dec.{T, leb-suc-suc}
+use lib.Dec.{T, leb-suc-suc, eqb-suc-suc}
 use lib.ListN.{length, take, drop}
-use borrow.Author.Tests.{lt-ltb, le-ltb}
+use borrow.Author.Tests.{lt-ltb, le-ltb, ne_eqb}
+use Rattle.std.specs.declared.cmp.Ordering.{Ordering}
+use Rattle.std.specs.declared.cmp.Ordering.TheVariants.{Less, Equal, Greater}
+use Rattle.std.specs.Ordering.{ordering_then, nat_cmp}
 use Rattle.bits.specs.Bits.{Bits, is_prefix, order}
 use Rattle.bits.specs.Numbers.{clear, blank}
-use Rattle.bits.specs.Orders.{number_order, or_else}
-use Rattle.bits.specs.declared.Order.{Order}
-use Rattle.bits.specs.declared.Order.TheVariants.{Before, Same, After}
 
 -- ---- clear
 
@@ -89,28 +89,25 @@ blank_ext_at (suc n) (x ∷ a) (y ∷ b) l e =
 pub blank_ext : (m n : ℕ) (a b : Bits) → length a ≡ length b → m ≡ n → take m a ≡ take n b → blank m a ≡ blank n b
 blank_ext m n a b l w e = blank_ext_at m a b l (e ∙ ap (λ (k : ℕ). take k b) (sym w)) ∙ ap (λ (k : ℕ). blank k b) w
 
--- ---- number_order
+-- ---- nat_cmp
 
-pub number_order-suc : (m n : ℕ) → number_order (suc m) (suc n) ≡ number_order m n
-number_order-suc m n = rw (leb-suc-suc, leb-suc-suc)
+pub nat_cmp-suc : (m n : ℕ) → nat_cmp (suc m) (suc n) ≡ nat_cmp m n
+nat_cmp-suc m n = rw (leb-suc-suc, eqb-suc-suc)
 
-pub number_order_same : (x y : ℕ) → x ≡ y → number_order x y ≡ Same
-number_order_same x y e = rw (le-ltb x y (omega arith), le-ltb y x (omega arith))
+pub nat_cmp-less : (x y : ℕ) → x < y → nat_cmp x y ≡ Less
+nat_cmp-less x y h = rw (lt-ltb x y h)
 
-pub number_order-before : (x y : ℕ) → x < y → number_order x y ≡ Before
-number_order-before x y h = rw (lt-ltb x y h)
+pub nat_cmp-greater : (x y : ℕ) → y < x → nat_cmp x y ≡ Greater
+nat_cmp-greater x y h = rw (le-ltb x y (omega arith), ne_eqb x y (λ e. omega arith))
 
-pub number_order-after : (x y : ℕ) → y < x → number_order x y ≡ After
-number_order-after x y h = rw (le-ltb x y (omega arith), lt-ltb y x h)
+-- ---- ordering_then
 
--- ---- or_else
+pub ordering_then_assoc : (o u v : Ordering) → ordering_then (ordering_then o u) v ≡ ordering_then o (ordering_then u v)
+ordering_then_assoc Less u v = refl
+ordering_then_assoc Equal u v = refl
+ordering_then_assoc Greater u v = refl
 
-pub or_else_assoc : (o u v : Order) → or_else (or_else o u) v ≡ or_else o (or_else u v)
-or_else_assoc Before u v = refl
-or_else_assoc Same u v = refl
-or_else_assoc After u v = refl
-
-pub order-append : (a b r s : Bits) → length a ≡ length b → order (a ++ r) (b ++ s) ≡ or_else (order a b) (order r s)
+pub order-append : (a b r s : Bits) → length a ≡ length b → order (a ++ r) (b ++ s) ≡ ordering_then (order a b) (order r s)
 order-append [] [] r s e = refl
 order-append [] (y ∷ b) r s e = absurd (omega arith)
 order-append (x ∷ a) [] r s e = absurd (omega arith)
@@ -120,7 +117,7 @@ order-append (true ∷ a) (false ∷ b) r s e = refl
 order-append (true ∷ a) (true ∷ b) r s e = order-append a b r s (omega arith)
 
 -- a clear string comes after none of its length
-clear-before : (a b : Bits) → length a ≡ length b → clear a ≡ true → or_else (order a b) Before ≡ Before
+clear-before : (a b : Bits) → length a ≡ length b → clear a ≡ true → ordering_then (order a b) Less ≡ Less
 clear-before [] [] e h = refl
 clear-before [] (y ∷ b) e h = absurd (omega arith)
 clear-before (x ∷ a) [] e h = absurd (omega arith)
@@ -128,7 +125,7 @@ clear-before (false ∷ a) (false ∷ b) e h = clear-before a b (omega arith) h
 clear-before (false ∷ a) (true ∷ b) e h = refl
 clear-before (true ∷ a) (y ∷ b) e h = cc
 
-clear-after : (a b : Bits) → length a ≡ length b → clear b ≡ true → or_else (order a b) After ≡ After
+clear-after : (a b : Bits) → length a ≡ length b → clear b ≡ true → ordering_then (order a b) Greater ≡ Greater
 clear-after [] [] e h = refl
 clear-after [] (y ∷ b) e h = absurd (omega arith)
 clear-after (x ∷ a) [] e h = absurd (omega arith)
@@ -136,7 +133,7 @@ clear-after (false ∷ a) (false ∷ b) e h = clear-after a b (omega arith) h
 clear-after (true ∷ a) (false ∷ b) e h = refl
 clear-after (x ∷ a) (true ∷ b) e h = cc
 
-clear_same : (a b : Bits) → length a ≡ length b → clear a ≡ true → clear b ≡ true → order a b ≡ Same
+clear_same : (a b : Bits) → length a ≡ length b → clear a ≡ true → clear b ≡ true → order a b ≡ Equal
 clear_same [] [] e h g = refl
 clear_same [] (y ∷ b) e h g = absurd (omega arith)
 clear_same (x ∷ a) [] e h g = absurd (omega arith)
@@ -146,14 +143,14 @@ clear_same (true ∷ a) (y ∷ b) e h g = cc
 
 -- strings with no bit set after the first m and n go by all of their bits, and then by m and n
 pub order-take : (m n : ℕ) (a b : Bits) → length a ≡ length b → m ≤ length a → n ≤ length b → clear (drop m a) ≡ true → clear (drop n b) ≡ true
-    → order (take m a) (take n b) ≡ or_else (order a b) (number_order m n)
+    → order (take m a) (take n b) ≡ ordering_then (order a b) (nat_cmp m n)
 order-take zero zero a b e hm hn g h = rw (clear_same a b e g h)
 order-take zero (suc n) a [] e hm hn g h = absurd (not-suc-le-zero hn)
-order-take zero (suc n) a (y ∷ b) e hm hn g h = rw (number_order-before 0 (suc n) (omega arith), clear-before a (y ∷ b) e g)
+order-take zero (suc n) a (y ∷ b) e hm hn g h = rw (nat_cmp-less 0 (suc n) (omega arith), clear-before a (y ∷ b) e g)
 order-take (suc m) n [] b e hm hn g h = absurd (not-suc-le-zero hm)
-order-take (suc m) zero (x ∷ a) b e hm hn g h = rw (number_order-after (suc m) 0 (omega arith), clear-after (x ∷ a) b e h)
+order-take (suc m) zero (x ∷ a) b e hm hn g h = rw (nat_cmp-greater (suc m) 0 (omega arith), clear-after (x ∷ a) b e h)
 order-take (suc m) (suc n) (x ∷ a) [] e hm hn g h = absurd (not-suc-le-zero hn)
-order-take (suc m) (suc n) (false ∷ a) (false ∷ b) e hm hn g h = rw number_order-suc (order-take m n a b (omega arith) (omega arith) (omega arith) g h)
+order-take (suc m) (suc n) (false ∷ a) (false ∷ b) e hm hn g h = rw nat_cmp-suc (order-take m n a b (omega arith) (omega arith) (omega arith) g h)
 order-take (suc m) (suc n) (false ∷ a) (true ∷ b) e hm hn g h = refl
 order-take (suc m) (suc n) (true ∷ a) (false ∷ b) e hm hn g h = refl
-order-take (suc m) (suc n) (true ∷ a) (true ∷ b) e hm hn g h = rw number_order-suc (order-take m n a b (omega arith) (omega arith) (omega arith) g h)
+order-take (suc m) (suc n) (true ∷ a) (true ∷ b) e hm hn g h = rw nat_cmp-suc (order-take m n a b (omega arith) (omega arith) (omega arith) g h)

@@ -16,11 +16,11 @@ use lib.Pow.{pow_pos, shr-shr, shl-shr, shl_exact, shr_lt, mod-pow-add}
 use lib.Bits.{bit_xor, xor_add_and, and_le_l, and_le_r, xor_shr, xor_self, xor_lt}
 use lib.Count.{count_leading_zeros, leading_length}
 use borrow.Author.Tests.{eqb-true, eqb-false, ltb-true, ltb-false, eq-eqb, ne_eqb}
+use Rattle.std.specs.declared.cmp.Ordering.TheVariants.{Less, Equal, Greater}
+use Rattle.std.specs.Ordering.{ordering_reverse, nat_cmp}
 use Rattle.bits.specs.Bits.{Bits, lcp, order}
 use Rattle.bits.specs.Numbers.{odd, bits_of, clear, blank}
-use Rattle.bits.specs.Orders.{number_order}
-use Rattle.bits.specs.declared.Order.TheVariants.{Before, Same, After}
-use Rattle.bits.proofs.BitsLaws.{lcp_self, order_refl, order_flip, flip}
+use Rattle.bits.proofs.BitsLaws.{lcp_self, order_refl, order_flip}
 use Rattle.bits.proofs.BlankLaws.{blank-append, blank-all}
 
 -- ---- odd
@@ -211,20 +211,20 @@ length-lcp-bits_of n x y hx hy =
 
 -- ---- order
 
-order_lt : (n x y : ℕ) → x % 2 ^ n < y % 2 ^ n → order (bits_of n x) (bits_of n y) ≡ Before
+order_lt : (n x y : ℕ) → x % 2 ^ n < y % 2 ^ n → order (bits_of n x) (bits_of n y) ≡ Less
 unfolding bits_of
 order_lt zero x y h = absurd (omega arith)
 order_lt (suc n) x y h = go (odd (x / 2 ^ n)) (odd (y / 2 ^ n)) refl refl (order_lt n x y)
   where
-    go : (p q : Bool) → odd (x / 2 ^ n) ≡ p → odd (y / 2 ^ n) ≡ q → (x % 2 ^ n < y % 2 ^ n → order (bits_of n x) (bits_of n y) ≡ Before)
-        → order (p ∷ bits_of n x) (q ∷ bits_of n y) ≡ Before
+    go : (p q : Bool) → odd (x / 2 ^ n) ≡ p → odd (y / 2 ^ n) ≡ q → (x % 2 ^ n < y % 2 ^ n → order (bits_of n x) (bits_of n y) ≡ Less)
+        → order (p ∷ bits_of n x) (q ∷ bits_of n y) ≡ Less
     go false false hp hq ih = ih (omega (arith, mod_zero n x hp, mod_zero n y hq))
     go false true hp hq ih = refl
     go true false hp hq ih = absurd (omega (arith, mod_one n x hp, mod_zero n y hq, mod-lt y (pow_pos n)))
     go true true hp hq ih = ih (omega (arith, mod_one n x hp, mod_one n y hq))
 
-pub order-bits_of : (n x y : ℕ) → x < 2 ^ n → y < 2 ^ n → order (bits_of n x) (bits_of n y) ≡ number_order x y
-order-bits_of n x y hx hy = go (ltb x y) (ltb y x) refl refl
+pub order-bits_of : (n x y : ℕ) → x < 2 ^ n → y < 2 ^ n → order (bits_of n x) (bits_of n y) ≡ nat_cmp x y
+order-bits_of n x y hx hy = go (ltb x y) (eqb x y) refl refl
   where
     ex : x % 2 ^ n ≡ x
     ex = mod-eq_of_lt hx
@@ -232,9 +232,10 @@ order-bits_of n x y hx hy = go (ltb x y) (ltb y x) refl refl
     ey : y % 2 ^ n ≡ y
     ey = mod-eq_of_lt hy
 
-    go : (p q : Bool) → ltb x y ≡ p → ltb y x ≡ q → order (bits_of n x) (bits_of n y) ≡ cond p Before (cond q After Same)
+    go : (p q : Bool) → ltb x y ≡ p → eqb x y ≡ q → order (bits_of n x) (bits_of n y) ≡ cond p Less (cond q Equal Greater)
     go true q hp hq = order_lt n x y (omega (arith, ltb-true x y hp, ex, ey))
-    go false true hp hq = order_flip (bits_of n y) (bits_of n x) ∙ ap flip (order_lt n y x (omega (arith, ltb-true y x hq, ex, ey)))
+    go false true hp hq = rw (eqb-true x y hq) (order_refl (bits_of n y))
     go false false hp hq =
-        let e : x ≡ y = omega (arith, ltb-false x y hp, ltb-false y x hq) in
-        rw e (order_refl (bits_of n y))
+        let h : x ≢ y = eqb-false x y hq in
+        let l : y < x = omega (arith, ltb-false x y hp) in
+        order_flip (bits_of n y) (bits_of n x) ∙ ap ordering_reverse (order_lt n y x (omega (arith, ex, ey)))

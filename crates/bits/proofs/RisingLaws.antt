@@ -8,12 +8,13 @@ use mathlib.Core.List.{List, [], ◌∷◌, ◌++◌, Memᴰ}
 use mathlib.Core.Logic.{inl, inr}
 use lib.Dec.{T}
 use lib.ListN.{length}
+use Rattle.std.specs.declared.cmp.Ordering.{Ordering}
+use Rattle.std.specs.declared.cmp.Ordering.TheVariants.{Less, Equal, Greater}
+use Rattle.std.specs.Ordering.{is_lt, is_eq, ordering_reverse}
 use Rattle.bits.specs.Lists.{any, all, keep, last_or}
-use Rattle.bits.specs.Bits.{Bits, order, is_before, is_same, before, equal, rising, member}
-use Rattle.bits.specs.declared.Order.{Order}
-use Rattle.bits.specs.declared.Order.TheVariants.{Before, Same, After}
+use Rattle.bits.specs.Bits.{Bits, order, before, equal, rising, member}
 use Rattle.bits.proofs.ListsLaws.{and_left, and_right, and_both, any_mem, all_imp, all_keep, all-last_or, keep-none, mem-all, all_mem, T_true}
-use Rattle.bits.proofs.BitsLaws.{equal_true, equal_refl, before_irrefl, before_trans, flip, order_flip}
+use Rattle.bits.proofs.BitsLaws.{equal_true, equal_refl, before_irrefl, before_trans, order_flip}
 
 -- ---- rising
 
@@ -47,10 +48,10 @@ before-rising p q qs b h =
 
 -- ---- members
 
-pub before_not-equal : (o : Order) → T (is_before o) → is_same o ≡ false
-before_not-equal Before h = refl
-before_not-equal Same h = elim h [ ]
-before_not-equal After h = elim h [ ]
+pub before_not-equal : (o : Ordering) → T (is_lt o) → is_eq o ≡ false
+before_not-equal Less h = refl
+before_not-equal Equal h = elim h [ ]
+before_not-equal Greater h = elim h [ ]
 
 -- what comes before all of a list is not in it
 pub any-equal-none : (p : Bits) (qs : List Bits) → T (all (before p) qs) → any (equal p) qs ≡ false
@@ -71,12 +72,12 @@ tails_at : (b : Bool) (r p : Bits) (ps qs : List Bits) → equal r p ≡ b → T
 tails_at true r p ps qs c h k e = rw (equal_true r p (rw c tt)) (any-equal-none p ps h ∙ sym (any-equal-none p qs k))
 tails_at false r p ps qs c h k e = rw c at e
 
-heads_at : (o : Order) (p q : Bits) (ps qs : List Bits) → order p q ≡ o → T (rising (p ∷ ps)) → T (rising (q ∷ qs))
+heads_at : (o : Ordering) (p q : Bits) (ps qs : List Bits) → order p q ≡ o → T (rising (p ∷ ps)) → T (rising (q ∷ qs))
     → ((r : Bits) → any (equal r) (p ∷ ps) ≡ any (equal r) (q ∷ qs))
     → (((r : Bits) → any (equal r) ps ≡ any (equal r) qs) → ps ≡ qs) → p ∷ ps ≡ q ∷ qs
-heads_at Before p q ps qs c h k e ih = absurd (no_less p q ps qs (rw c tt) k (e p))
-heads_at After p q ps qs c h k e ih = absurd (no_less q p qs ps (rw (order_flip p q, c) tt) h (sym (e q)))
-heads_at Same p q ps qs c h k e ih =
+heads_at Less p q ps qs c h k e ih = absurd (no_less p q ps qs (rw c tt) k (e p))
+heads_at Greater p q ps qs c h k e ih = absurd (no_less q p qs ps (rw (order_flip p q, c) tt) h (sym (e q)))
+heads_at Equal p q ps qs c h k e ih =
     let g : q ≡ p = sym (equal_true p q (rw c tt)) in
     let k' : T (rising (p ∷ qs)) = rw g at k in
     let e' : (r : Bits) → any (equal r) (p ∷ ps) ≡ any (equal r) (p ∷ qs) = rw g at e in
@@ -98,10 +99,10 @@ member_mem p ps h = let w = any_mem (equal p) ps h in Memᴰ.cast (equal_true p 
 
 -- ---- what comes after a string, and after the first part of a list
 
-not-after_at : (o : Order) (z a b : Bits) → order z a ≡ o → (T (is_before o) → ⊥) → T (before z b) → T (before a b)
-not-after_at Before z a b c h k = absurd (h tt)
-not-after_at Same z a b c h k = rw (equal_true z a (rw c tt)) at k
-not-after_at After z a b c h k = before_trans a z b (rw (order_flip z a, c) tt) k
+not-after_at : (o : Ordering) (z a b : Bits) → order z a ≡ o → (T (is_lt o) → ⊥) → T (before z b) → T (before a b)
+not-after_at Less z a b c h k = absurd (h tt)
+not-after_at Equal z a b c h k = rw (equal_true z a (rw c tt)) at k
+not-after_at Greater z a b c h k = before_trans a z b (rw (order_flip z a, c) tt) k
 
 -- what does not come after z comes before all that does
 pub not-after-before : (z a b : Bits) → (T (before z a) → ⊥) → T (before z b) → T (before a b)
@@ -137,10 +138,10 @@ rising_parts [] ys h a b x3 j = elim x3 [ ]
 before_other : (p q : Bits) → T (before p q) → equal q p ≡ false
 before_other p q h = rw order_flip (at (order p q) h)
   where
-    at : (o : Order) → T (is_before o) → is_same (flip o) ≡ false
-    at Before h = refl
-    at Same h = elim h [ ]
-    at After h = elim h [ ]
+    at : (o : Ordering) → T (is_lt o) → is_eq (ordering_reverse o) ≡ false
+    at Less h = refl
+    at Equal h = elim h [ ]
+    at Greater h = elim h [ ]
 
 -- a member of a rising list stands there once
 pub length-keep-equal : (p : Bits) (ps : List Bits) → T (rising ps) → Memᴰ p ps → length (keep (equal p) ps) ≡ 1

@@ -9,9 +9,10 @@
 --   member p ps     p is one of the strings ps
 -- Assumes nothing.
 use Rattle.std.specs.Prelude.{Bool, true, false, ◌&&◌, List, [], ◌∷◌}
+use Rattle.std.specs.declared.cmp.Ordering.{Ordering}
+use Rattle.std.specs.declared.cmp.Ordering.TheVariants.{Less, Equal, Greater}
+use Rattle.std.specs.Ordering.{is_lt, is_eq}
 use Rattle.bits.specs.Lists.{all, any}
-use Rattle.bits.specs.declared.Order.{Order}
-use Rattle.bits.specs.declared.Order.TheVariants.{Before, Same, After}
 
 abbrev pub Bits : Type 0
 Bits = List Bool
@@ -35,30 +36,20 @@ lcp (true ∷ p) (false ∷ k) = []
 lcp (true ∷ p) (true ∷ k) = true ∷ lcp p k
 
 -- "at the first differing bit, 0 comes before 1; a prefix comes before everything that extends it"
-abbrev pub order : Bits → Bits → Order
-order [] [] = Same
-order [] (y ∷ k) = Before
-order (x ∷ p) [] = After
+abbrev pub order : Bits → Bits → Ordering
+order [] [] = Equal
+order [] (y ∷ k) = Less
+order (x ∷ p) [] = Greater
 order (false ∷ p) (false ∷ k) = order p k
-order (false ∷ p) (true ∷ k) = Before
-order (true ∷ p) (false ∷ k) = After
+order (false ∷ p) (true ∷ k) = Less
+order (true ∷ p) (false ∷ k) = Greater
 order (true ∷ p) (true ∷ k) = order p k
 
-abbrev pub is_before : Order → Bool
-is_before Before = true
-is_before Same = false
-is_before After = false
-
-abbrev pub is_same : Order → Bool
-is_same Before = false
-is_same Same = true
-is_same After = false
-
 abbrev pub before : Bits → Bits → Bool
-before p k = is_before (order p k)
+before p k = is_lt (order p k)
 
 abbrev pub equal : Bits → Bits → Bool
-equal p k = is_same (order p k)
+equal p k = is_eq (order p k)
 
 abbrev pub rising : List Bits → Bool
 rising [] = true

@@ -2,4 +2,3 @@ pub mod Lists
 pub mod Bits
 pub mod Numbers
 pub mod Meet
-pub mod Orders

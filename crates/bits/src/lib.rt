@@ -1,19 +1,11 @@
-// Bit strings: the two answers that comparing them can have. Types alone: what they mean, and its
-// laws, stand in specs/ and proofs/.
+// Bit strings: how a key can stand to a node's string. Which of two strings comes first is std's `Ordering`.
+// A type alone: what it means, and its laws, stand in specs/ and proofs/.
 
 #![tactic(auto)]
 
-// Which of two strings comes first.
-#[derive(Clone, Copy)]
-pub enum Order {
-    Before,
-    Same,
-    After,
-}
-
 // How a key stands to a node's string. Each bit is the first one that only the longer string has,
 // and of two that part, the key's.
-#[derive(Clone, Copy)]
+#[derive(Clone, Copy, Debug, PartialEq, Eq)]
 pub enum Meeting {
     Equal,
     Below(bool),

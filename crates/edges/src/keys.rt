@@ -1,9 +1,7 @@
 // Keys at their edges: the empty one, the ends of words, and the widths 128 and 129.
-ghost use Rattle.prefix.specs.Keys.{Valid};
-
-use crate::printing::{number, say, show};
-use bits::{Meeting, Order};
+use crate::printing::{Met, Shown};
 use prefix::Prefix;
+use std::cmp::Ordering;
 use std::io;
 
 const ONES: u32 = 0xffff_ffff;
@@ -14,69 +12,51 @@ const TOP: u32 = 0x8000_0000;
 
 // "Widths 128 and 129", and the widths at the ends of words.
 pub(crate) fn widths(rt: &impl Print) -> io::Result<()> {
-    validity(rt, of(0, 0, 0, 0, 0))?;
-    validity(rt, of(32, ONES, 0, 0, 0))?;
-    validity(rt, of(64, ONES, ONES, 0, 0))?;
-    validity(rt, of(96, ONES, ONES, ONES, 0))?;
-    validity(rt, of(127, ONES, ONES, ONES, ONES - 1))?;
-    validity(rt, of(128, ONES, ONES, ONES, ONES))?;
-    validity(rt, of(129, 0, 0, 0, 0))?;
-    validity(rt, of(129, ONES, ONES, ONES, ONES))?;
-    validity(rt, of(ONES, 0, 0, 0, 0))?;
+    for p in [
+        of(0, 0, 0, 0, 0),
+        of(32, ONES, 0, 0, 0),
+        of(64, ONES, ONES, 0, 0),
+        of(96, ONES, ONES, ONES, 0),
+        of(127, ONES, ONES, ONES, ONES - 1),
+        of(128, ONES, ONES, ONES, ONES),
+        of(129, 0, 0, 0, 0),
+        of(129, ONES, ONES, ONES, ONES),
+        of(ONES, 0, 0, 0, 0),
+    ] {
+        validity(rt, p)?;
+    }
     Ok(())
 }
 
 // One bit set just after the width, and the lowest of all.
 pub(crate) fn bits_after(rt: &impl Print) -> io::Result<()> {
-    validity(rt, of(0, TOP, 0, 0, 0))?;
-    validity(rt, of(31, 1, 0, 0, 0))?;
-    validity(rt, of(32, 0, TOP, 0, 0))?;
-    validity(rt, of(64, 0, 0, TOP, 0))?;
-    validity(rt, of(96, 0, 0, 0, TOP))?;
-    validity(rt, of(127, 0, 0, 0, 1))?;
-    validity(rt, of(0, 0, 0, 0, 1))?;
-    validity(rt, of(33, ONES, TOP, 0, 0))?;
+    for p in [
+        of(0, TOP, 0, 0, 0),
+        of(31, 1, 0, 0, 0),
+        of(32, 0, TOP, 0, 0),
+        of(64, 0, 0, TOP, 0),
+        of(96, 0, 0, 0, TOP),
+        of(127, 0, 0, 0, 1),
+        of(0, 0, 0, 0, 1),
+        of(33, ONES, TOP, 0, 0),
+    ] {
+        validity(rt, p)?;
+    }
     Ok(())
 }
 
 fn validity(rt: &impl Print, p: Prefix) -> io::Result<()> {
-    show(rt, p)?;
-    if prefix::valid(p) {
-        say(rt, " is valid\n")
-    } else {
-        say(rt, " is not valid\n")
-    }
+    let is = if prefix::valid(p) { "is" } else { "is not" };
+    println!(rt; "{} {is} valid", Shown(p))
 }
 
 // ---- bit
 
 pub(crate) fn bits_at(rt: &impl Print) -> io::Result<()> {
     let p = of(128, TOP, 1, TOP, 1);
-    one_bit(rt, p, 0)?;
-    one_bit(rt, p, 1)?;
-    one_bit(rt, p, 31)?;
-    one_bit(rt, p, 32)?;
-    one_bit(rt, p, 62)?;
-    one_bit(rt, p, 63)?;
-    one_bit(rt, p, 64)?;
-    one_bit(rt, p, 95)?;
-    one_bit(rt, p, 96)?;
-    one_bit(rt, p, 126)?;
-    one_bit(rt, p, 127)?;
-    Ok(())
-}
-
-fn one_bit(rt: &impl Print, p: Prefix, i: u32) -> io::Result<()> {
-    if p.width <= 128 {
-        if i < p.width {
-            show(rt, p)?;
-            say(rt, " at ")?;
-            number(rt, i)?;
-            if prefix::bit(p, i) {
-                say(rt, ": 1\n")?;
-            } else {
-                say(rt, ": 0\n")?;
-            }
+    for i in [0, 1, 31, 32, 62, 63, 64, 95, 96, 126, 127] {
+        if p.width <= 128 && i < p.width {
+            println!(rt; "{} at {i}: {}", Shown(p), u8::from(prefix::bit(p, i)))?;
         }
     }
     Ok(())
@@ -93,96 +73,56 @@ pub(crate) fn pairs(rt: &impl Print) -> io::Result<()> {
     let other = of(33, ONES, 0, 0, 0);
     let all = of(128, ONES, ONES, ONES, ONES);
     let last = of(128, ONES, ONES, ONES, ONES - 1);
-    pair(rt, empty, empty)?;
-    pair(rt, empty, all)?;
-    pair(rt, zero, one)?;
-    pair(rt, one, zero)?;
-    pair(rt, word, long)?;
-    pair(rt, long, other)?;
-    pair(rt, other, word)?;
-    pair(rt, last, all)?;
-    pair(rt, all, all)?;
+    for (s, k) in [
+        (empty, empty),
+        (empty, all),
+        (zero, one),
+        (one, zero),
+        (word, long),
+        (long, other),
+        (other, word),
+        (last, all),
+        (all, all),
+    ] {
+        pair(rt, s, k)?;
+    }
     Ok(())
 }
 
 fn pair(rt: &impl Print, s: Prefix, k: Prefix) -> io::Result<()> {
-    if prefix::valid(s) {
-        if prefix::valid(k) {
-            compared(rt, s, k)?;
-        }
+    if prefix::valid(s) && prefix::valid(k) {
+        print!(rt;
+            "{} and {}: share {}, ",
+            Shown(s),
+            Shown(k),
+            prefix::shared(s, k)
+        )?;
+        let begun = if prefix::begins(k, s) {
+            "prefix"
+        } else {
+            "no prefix"
+        };
+        let order = ordered(prefix::compare(s, k));
+        println!(rt; "{begun}, {order}, {}", Met(prefix::meet(s, k)))?;
     }
     Ok(())
 }
 
-fn compared(rt: &impl Print, s: Prefix, k: Prefix) -> io::Result<()>
-    requires { Valid s × Valid k }
-{
-    show(rt, s)?;
-    say(rt, " and ")?;
-    show(rt, k)?;
-    say(rt, ": share ")?;
-    number(rt, prefix::shared(s, k))?;
-    begun(rt, prefix::begins(k, s))?;
-    ordered(rt, prefix::compare(s, k))?;
-    met(rt, prefix::meet(s, k))?;
-    Ok(())
-}
-
-fn begun(rt: &impl Print, yes: bool) -> io::Result<()> {
-    if yes {
-        say(rt, ", prefix")
-    } else {
-        say(rt, ", no prefix")
-    }
-}
-
-fn ordered(rt: &impl Print, o: Order) -> io::Result<()> {
+fn ordered(o: Ordering) -> &'static str {
     match o {
-        Order::Before => say(rt, ", before"),
-        Order::Same => say(rt, ", same"),
-        Order::After => say(rt, ", after"),
+        Ordering::Less => "before",
+        Ordering::Equal => "same",
+        Ordering::Greater => "after",
     }
-}
-
-fn met(rt: &impl Print, m: Meeting) -> io::Result<()> {
-    match m {
-        Meeting::Equal => say(rt, ", equal\n"),
-        Meeting::Below(x) => by(rt, ", below by ", x),
-        Meeting::Above(x) => by(rt, ", above by ", x),
-        Meeting::Apart(x) => by(rt, ", apart by ", x),
-    }
-}
-
-fn by(rt: &impl Print, text: &str, x: bool) -> io::Result<()> {
-    say(rt, text)?;
-    if x { say(rt, "1\n") } else { say(rt, "0\n") }
 }
 
 // ---- cut
 
 pub(crate) fn cuts(rt: &impl Print) -> io::Result<()> {
-    let all = of(128, ONES, ONES, ONES, ONES);
-    first(rt, all, 0)?;
-    first(rt, all, 1)?;
-    first(rt, all, 31)?;
-    first(rt, all, 32)?;
-    first(rt, all, 33)?;
-    first(rt, all, 64)?;
-    first(rt, all, 95)?;
-    first(rt, all, 96)?;
-    first(rt, all, 127)?;
-    first(rt, all, 128)?;
-    Ok(())
-}
-
-fn first(rt: &impl Print, p: Prefix, n: u32) -> io::Result<()> {
-    if p.width <= 128 {
-        if n <= p.width {
-            say(rt, "first ")?;
-            number(rt, n)?;
-            say(rt, ": ")?;
-            show(rt, prefix::cut(p, n))?;
-            say(rt, "\n")?;
+    let p = of(128, ONES, ONES, ONES, ONES);
+    for n in [0, 1, 31, 32, 33, 64, 95, 96, 127, 128] {
+        if p.width <= 128 && n <= p.width {
+            println!(rt; "first {n}: {}", Shown(prefix::cut(p, n)))?;
         }
     }
     Ok(())

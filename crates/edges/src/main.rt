@@ -5,7 +5,7 @@
 
 mod cells; // positions and their cells
 mod keys; // keys, alone and in pairs
-mod printing; // keys, numbers and text
+mod printing; // keys, and how one stands to another
 
 use cells::{cells_around_zero, cells_at_ends, cells_outside};
 use keys::{bits_after, bits_at, cuts, pairs, widths};

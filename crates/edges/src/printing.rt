@@ -1,25 +1,34 @@
-// Printing: keys, numbers and text.
+// Printing: keys, and how one stands to another.
+use bits::Meeting;
 use prefix::Prefix;
-use std::io;
+use std::fmt;
 
-pub(crate) fn show(rt: &impl Print, p: Prefix) -> io::Result<()> {
-    word(rt, p.w0)?;
-    word(rt, p.w1)?;
-    word(rt, p.w2)?;
-    word(rt, p.w3)?;
-    say(rt, "/")?;
-    number(rt, p.width)?;
-    Ok(())
+// A key as its four words and its width.
+#[derive(Clone, Copy)]
+pub(crate) struct Shown(pub(crate) Prefix);
+
+impl fmt::Display for Shown {
+    fn fmt<W: fmt::Write>(&self, f: &mut fmt::Formatter<W>) -> fmt::Result {
+        let p = self.0;
+        write!(
+            f,
+            "{:08x}{:08x}{:08x}{:08x}/{}",
+            p.w0, p.w1, p.w2, p.w3, p.width
+        )
+    }
 }
 
-fn word(rt: &impl Print, x: u32) -> io::Result<()> {
-    print!(rt; "{x:08x}")
-}
+// How a key meets a string, with the bit.
+#[derive(Clone, Copy)]
+pub(crate) struct Met(pub(crate) Meeting);
 
-pub(crate) fn number(rt: &impl Print, n: u32) -> io::Result<()> {
-    rt.print(n)
-}
-
-pub(crate) fn say(rt: &impl Print, text: &str) -> io::Result<()> {
-    rt.print(text)
+impl fmt::Display for Met {
+    fn fmt<W: fmt::Write>(&self, f: &mut fmt::Formatter<W>) -> fmt::Result {
+        match self.0 {
+            Meeting::Equal => write!(f, "equal"),
+            Meeting::Below(x) => write!(f, "below by {}", u8::from(x)),
+            Meeting::Above(x) => write!(f, "above by {}", u8::from(x)),
+            Meeting::Apart(x) => write!(f, "apart by {}", u8::from(x)),
+        }
+    }
 }

@@ -4,7 +4,6 @@
 -- looks at is said at the head of PlanRestsLaws. Paper 01, "The lent table". No contract cites this file.
 -- Assumes nothing.
 use Prim.Native.Nat.{ℕ, suc, ◌+◌, ◌≤◌}
-use native.Mathlib.Omega.{arith}
 use mathlib.Core.Path.{◌≡◌, refl}
 use mathlib.Core.Bool.{Bool, true, false, cond}
 use mathlib.Core.List.Memᴰ
@@ -15,6 +14,8 @@ use lib.Dec.{ltb, eqb}
 use lib.ListN.{length, take, replicate}
 use lib.Seq.{paste}
 use borrow.Author.Tests.{ltb-false}
+use Rattle.std.specs.Prelude.{Result, Ok, Err}
+use Rattle.std.specs.Prelude as rust
 use Rattle.bits.specs.Bits.{Bits}
 use Rattle.bits.specs.Meet.{meet}
 use Rattle.bits.specs.declared.Meeting.{Meeting}
@@ -27,13 +28,13 @@ use Rattle.zones.specs.Tree.{Tree, tip, node}
 use Rattle.zones.specs.Focus.{Context, top, focus, link_at}
 use Rattle.records.specs.Layout.{record_at, header_at}
 use Rattle.records.specs.Holds.{Chained, Holds}
-use Rattle.lookup.specs.Walking.{survey_on}
+use Rattle.lookup.specs.Walking.{survey_on, stored_in}
 use Rattle.lookup.specs.Paths.{path_links, Agree}
 use Rattle.lookup.specs.declared.Walk.{Walk}
 use Rattle.lookup.specs.declared.Met.{Met}
 use Rattle.lookup.specs.declared.Met.TheVariants.{Matching, Mismatching}
-use Rattle.lookup.specs.declared.Surveyed.{Surveyed}
-use Rattle.lookup.specs.declared.Surveyed.TheVariants as surveyed
+use Rattle.lookup.specs.declared.Path.{Path}
+use Rattle.refusals.specs.declared.Refusal.{Refusal}
 use Rattle.lookup.proofs.SurveyLaws.{survey_on-cases}
 use Rattle.lookup.proofs.PathLinksLaws.{walk_links, path_links-walk}
 use Rattle.lookup.proofs.RestsLaws.{survey_on_rests}
@@ -41,25 +42,22 @@ use Rattle.lookup.proofs.EndsLaws.{low_of, Stood, StoodAt, EndedBy, Ended, surve
 use Rattle.lookup.proofs.FramesLaws.{Along, AtTop, link_at-path, below-path}
 use Rattle.plans.specs.Planning.{spare_on, plan_store_on, plan_remove_on}
 use Rattle.plans.specs.Plans.{Plan}
-use Rattle.plans.specs.Planned.{Planned}
-use Rattle.plans.specs.Planned as planned
 use Rattle.plans.specs.declared.Spare.{Spare}
-use Rattle.plans.specs.declared.Spare.TheVariants as spare
+use Rattle.plans.specs.declared.Unmade.{Unmade}
+use Rattle.plans.specs.declared.Unmade.TheVariants as unmade
 use Rattle.edits.specs.Storing.{stored_by, stored_of, store_on}
-use Rattle.edits.specs.Removing.{removed_by, removed_of, remove_on}
+use Rattle.edits.specs.Removing.{removed_at, removed_of, remove_on}
 use Rattle.edits.specs.Resting.{written, SameEdit, edit_links}
-use Rattle.edits.specs.declared.Removal.TheVariants.{Absent}
 use Rattle.grafts.proofs.PlanRestsLaws.{SameLook, SameLooks, look_on_zero, look_on_same, SameNext, same_next_zero, same_next-spare_on, way_links, store_links, plan_store_on_rests, remove_links, plan_remove_on_rests}
 
 -- ---- SameLooks, at the links that a walk ends with
 
 -- a survey that ends with a path had a valid key and room
-survey_on-path : (ws : List ℕ) (k : Prefix) (room : ℕ) (ts : List ℕ) (n : ℕ) (s : Walk) (e : Met)
-    → (survey_on ws k room ts).out ≡ surveyed.Path n s e → Valid k × (129 ≤ room)
-survey_on-path ws k room ts n s e =
-    survey_on-cases ws k room ts (λ v. v.out ≡ surveyed.Path n s e → Valid k × (129 ≤ room))
-    (λ a h. let z : ◌≡◌ {A = ℕ} 0 1 = cc in absurd (omega arith)) (λ a b h. let z : ◌≡◌ {A = ℕ} 0 1 = cc in absurd (omega arith))
-    (λ a b c h. let z : ◌≡◌ {A = ℕ} 0 1 = cc in absurd (omega arith)) (λ a b c h. (is_valid_true k b, ltb-false room 129 c))
+survey_on-path : (ws : List ℕ) (k : Prefix) (room : ℕ) (ts : List ℕ) (p : Path)
+    → (survey_on ws k room ts).out ≡ Ok p → Valid k × (129 ≤ room)
+survey_on-path ws k room ts p =
+    survey_on-cases ws k room ts (λ v. v.out ≡ Ok p → Valid k × (129 ≤ room))
+    (λ a h. cc) (λ a b h. cc) (λ a b c h. cc) (λ a b c h. (is_valid_true k b, ltb-false room 129 c))
 
 -- at the nodes that the walk passed last, and at the one in the way, if there is one
 abbrev SameEnds : List ℕ → List ℕ → Walk → Met → Type 0
@@ -102,13 +100,13 @@ module _ (us ws ls : List ℕ) (same : (l : ℕ) → Memᴰ l ls → SameLook us
 
 -- the memories show the same where a survey on words that hold a map ends
 same_ends-survey : (ws us : List ℕ) (k : Prefix) (m : Map) (h : Holds ws m) → Agree us ws (path_links h.tree (string_of k))
-    → (room : ℕ) (ts : List ℕ) (n : ℕ) (s : Walk) (e : Met) → (survey_on ws k room ts).out ≡ surveyed.Path n s e → SameEnds us ws s e
-same_ends-survey ws us k m h agree room ts n s e q =
-    let v = survey_on-path ws k room ts n s e q in
+    → (room : ℕ) (ts : List ℕ) (p : Path) → (survey_on ws k room ts).out ≡ Ok p → SameEnds us ws p.walk p.met
+same_ends-survey ws us k m h agree room ts p q =
+    let v = survey_on-path ws k room ts p q in
     let x = survey_on-ends ws m k room ts h v.0 v.1 in
     let f = focus top h.tree (string_of k) in
-    let last : x.last ≡ s = cc in
-    let met : x.met ≡ e = cc in
+    let last : x.last ≡ p.walk = cc in
+    let met : x.met ≡ p.met = cc in
     let same = rw (path_links-walk h.tree (string_of k) h.good) at agree.same_records in
     rw (last, met) at (same_ends-ended us ws (walk_links h.tree (string_of k))
     (λ l i. look_on_same us ws agree.same_length l (same l i)) f.above (link_at-path h.tree (string_of k))
@@ -128,14 +126,13 @@ same_next-chained us ws l (a ∷ ls) same h =
     rw h.0 (same_next-spare_on us ws a
     (same_look-or us ws (take 1 ls) (λ b i. same b (Memᴰ.tail i)) next (chained_first ws 0 next ls h.2)))
 
-same_looks_way : (us ws : List ℕ) (k : Prefix) (s : Walk) (e : Met) (x : Spare) → SameEnds us ws s e → SameNext us ws x
+same_looks_way : (us ws : List ℕ) (k : Prefix) (s : Walk) (e : Met) (x : Result Spare Unmade) → SameEnds us ws s e → SameNext us ws x
     → SameLooks us ws (way_links k e x)
 same_looks_way us ws k s (Matching q) x i j = tt
-same_looks_way us ws k s (Mismatching l b) spare.Out i j = tt
-same_looks_way us ws k s (Mismatching l b) spare.Bad i j = tt
-same_looks_way us ws k s (Mismatching l b) (spare.Free a next) i j = at (ltb b k.width)
+same_looks_way us ws k s (Mismatching l b) (Err d) i j = tt
+same_looks_way us ws k s (Mismatching l b) (Ok x) i j = at (ltb b k.width)
   where
-    at : (c : Bool) → SameLooks us ws (cond c (next ∷ []) (l ∷ []))
+    at : (c : Bool) → SameLooks us ws (cond c (x.next ∷ []) (l ∷ []))
     at true = (j, tt)
     at false = (i.1, tt)
 
@@ -163,20 +160,17 @@ same-written us ws r bs p = record { answer = refl; bytes = refl; plan = p; left
 -- ---- store_on
 
 module _ (ws us : List ℕ) (k : Prefix) (z : ℕ) (bs : List ℕ) where
-  stored_by_same : (ts : List ℕ) (n : ℕ) (s : Walk) (r : Planned)
-      → SameEdit us ws (stored_by us k bs ts n s r) (stored_by ws k bs ts n s r)
-  stored_by_same ts n s (planned.Go p) = same-written us ws _ (paste bs 0 ts n) (some p)
-  stored_by_same ts n s planned.Damaged = same-written us ws _ bs none
-  stored_by_same ts n s planned.Full = same-written us ws _ (paste bs 0 ts n) none
+  stored_by_same : (ts : List ℕ) (p : Path) (r : Result Plan Unmade)
+      → SameEdit us ws (stored_by us k bs ts p r) (stored_by ws k bs ts p r)
+  stored_by_same ts p (Ok q) = same-written us ws _ (paste bs 0 ts p.nodes) (some q)
+  stored_by_same ts p (Err unmade.Damaged) = same-written us ws _ bs none
+  stored_by_same ts p (Err unmade.Full) = same-written us ws _ (paste bs 0 ts p.nodes) none
 
-  stored_of_same : (ts : List ℕ) (r : Surveyed)
-      → ((n : ℕ) (s : Walk) (e : Met) → r ≡ surveyed.Path n s e → plan_store_on us k z s e ≡ plan_store_on ws k z s e)
+  stored_of_same : (ts : List ℕ) (r : Result Path Refusal)
+      → ((p : Path) → r ≡ Ok p → plan_store_on us k z p.walk p.met ≡ plan_store_on ws k z p.walk p.met)
       → SameEdit us ws (stored_of us k z bs ts r) (stored_of ws k z bs ts r)
-  stored_of_same ts (surveyed.Path n s e) f = rw (f n s e refl) (stored_by_same ts n s (plan_store_on ws k z s e))
-  stored_of_same ts surveyed.BadLength f = same-written us ws _ bs none
-  stored_of_same ts surveyed.BadPrefix f = same-written us ws _ bs none
-  stored_of_same ts surveyed.ShortOut f = same-written us ws _ bs none
-  stored_of_same ts surveyed.Damaged f = same-written us ws _ bs none
+  stored_of_same ts (Ok p) f = rw (f p refl) (stored_by_same ts p (plan_store_on ws k z p.walk p.met))
+  stored_of_same ts (Err e) f = same-written us ws _ bs none
 
 module _ (ws us : List ℕ) (k : Prefix) (m : Map) (h : Holds ws m) (agree : Agree us ws (edit_links h (string_of k))) where
   agree-path : Agree us ws (path_links h.tree (string_of k))
@@ -199,32 +193,23 @@ store_on_rests ws us k z bs m h agree =
     let v = survey_on ws k (length bs) (replicate 129 0) in
     let ends = same_ends-survey ws us k m h path (length bs) (replicate 129 0) in
     rw (survey_on_rests ws us k m h path (length bs) (replicate 129 0)) (stored_of_same ws us k z bs v.widths v.out
-    (λ n s e q. plan_store_on_rests us ws k z s e agree.same_header
-    (same_looks-store us ws k m h (same_look_spare ws us k m h agree) s e (ends n s e q))))
+    (λ p q. plan_store_on_rests us ws k z p.walk p.met agree.same_header
+    (same_looks-store us ws k m h (same_look_spare ws us k m h agree) p.walk p.met (ends p q))))
 
 -- ---- remove_on
 
 module _ (ws us : List ℕ) (k : Prefix) (bs : List ℕ) where
-  removed_by_same : (ts : List ℕ) (n : ℕ) (s : Walk) (r : Planned)
-      → SameEdit us ws (removed_by us bs ts n s r) (removed_by ws bs ts n s r)
-  removed_by_same ts n s (planned.Go p) = same-written us ws _ (paste bs 0 ts n) (some p)
-  removed_by_same ts n s planned.Damaged = same-written us ws _ bs none
-  removed_by_same ts n s planned.Full = same-written us ws _ bs none
+  removed_at_same : (ts : List ℕ) (n : ℕ) (o : rust.Option ℕ) (r : Result Plan Unmade)
+      → SameEdit us ws (removed_at us bs ts n o r) (removed_at ws bs ts n o r)
+  removed_at_same ts n (rust.Some z) (Ok p) = same-written us ws _ (paste bs 0 ts n) (some p)
+  removed_at_same ts n (rust.Some z) (Err d) = same-written us ws _ bs none
+  removed_at_same ts n rust.None r = same-written us ws _ (paste bs 0 ts n) none
 
-  removed_of_same : (ts : List ℕ) (r : Surveyed)
-      → ((n : ℕ) (s : Walk) (e : Met) → r ≡ surveyed.Path n s e → plan_remove_on us k s ≡ plan_remove_on ws k s)
+  removed_of_same : (ts : List ℕ) (r : Result Path Refusal)
+      → ((p : Path) → r ≡ Ok p → plan_remove_on us k p.walk ≡ plan_remove_on ws k p.walk)
       → SameEdit us ws (removed_of us k bs ts r) (removed_of ws k bs ts r)
-  removed_of_same ts (surveyed.Path n s e) f = rw (f n s e refl) (at (eqb s.best (k.width + 1)))
-    where
-      at : (b : Bool) → SameEdit us ws
-          (cond b (removed_by us bs ts n s (plan_remove_on ws k s)) (record { answer = Absent n; bytes = paste bs 0 ts n; words = us }))
-          (cond b (removed_by ws bs ts n s (plan_remove_on ws k s)) (record { answer = Absent n; bytes = paste bs 0 ts n; words = ws }))
-      at true = removed_by_same ts n s (plan_remove_on ws k s)
-      at false = same-written us ws (Absent n) (paste bs 0 ts n) none
-  removed_of_same ts surveyed.BadLength f = same-written us ws _ bs none
-  removed_of_same ts surveyed.BadPrefix f = same-written us ws _ bs none
-  removed_of_same ts surveyed.ShortOut f = same-written us ws _ bs none
-  removed_of_same ts surveyed.Damaged f = same-written us ws _ bs none
+  removed_of_same ts (Ok p) f = rw (f p refl) (removed_at_same ts p.nodes (stored_in k.width p.walk.longest) (plan_remove_on ws k p.walk))
+  removed_of_same ts (Err e) f = same-written us ws _ bs none
 
 -- a remove reads no spare record
 pub remove_on_rests : (ws us : List ℕ) (k : Prefix) (bs : List ℕ) (m : Map) → (h : Holds ws m)
@@ -234,4 +219,4 @@ remove_on_rests ws us k bs m h agree =
     let v = survey_on ws k (length bs) (replicate 129 0) in
     let ends = same_ends-survey ws us k m h agree (length bs) (replicate 129 0) in
     rw (survey_on_rests ws us k m h agree (length bs) (replicate 129 0)) (removed_of_same ws us k bs v.widths v.out
-    (λ n s e q. plan_remove_on_rests us ws k s agree.same_header (same_ends-remove us ws s e (ends n s e q))))
+    (λ p q. plan_remove_on_rests us ws k p.walk agree.same_header (same_ends-remove us ws p.walk p.met (ends p q))))

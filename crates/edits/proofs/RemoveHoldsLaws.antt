@@ -5,12 +5,12 @@
 -- Assumes nothing.
 use Prim.Native.Nat.{ℕ, ◌+◌, ◌≤◌}
 use mathlib.Core.Path.{◌≡◌, refl, sym, ap, ◌∙◌}
-use mathlib.Core.Bool.{Bool, true, false, cond}
 use mathlib.Core.List.{List, [], ◌++◌}
 use mathlib.Core.Option.{Option, none, some, none-ne-some}
-use lib.Dec.{eqb}
 use lib.ListN.{length, drop, replicate}
 use lib.Seq.{paste}
+use Rattle.std.specs.Prelude.{Ok, Err}
+use Rattle.refusals.specs.declared.Refusal.TheVariants.{Absent}
 use Rattle.bits.specs.Bits.{Bits}
 use Rattle.bits.specs.Meet.{meet}
 use Rattle.bits.specs.declared.Meeting.{Meeting}
@@ -28,20 +28,16 @@ use Rattle.zones.proofs.MapsLaws.{without-none}
 use Rattle.zones.proofs.FindLaws.{get-entries}
 use Rattle.zones.proofs.FocusLaws.{find-focus, plug-focus, pull-remove_tree}
 use Rattle.records.specs.Holds.{Holds}
-use Rattle.lookup.specs.Walking.{survey_on}
-use Rattle.lookup.specs.Fetching.{found_of}
-use Rattle.lookup.specs.Fetching as fetching
+use Rattle.lookup.specs.Walking.{survey_on, stored_in}
+use Rattle.lookup.specs.Fetching.{given}
+use Rattle.lookup.specs.declared.Path.{Path}
 use Rattle.lookup.specs.declared.Walk.{Walk}
 use Rattle.lookup.specs.declared.Met.{Met}
-use Rattle.lookup.specs.declared.Surveyed.TheVariants.{Path}
-use Rattle.lookup.specs.declared.Fetched.TheVariants as fetched
-use Rattle.lookup.proofs.HoldsLaws.{leave_on_holds, found_of_holds}
+use Rattle.lookup.proofs.HoldsLaws.{leave_on_holds, get-noted}
 use Rattle.lookup.proofs.EndsLaws.{EndedBy, Ended, EndsAt, survey_on-ends}
 use Rattle.lookup.proofs.FramesLaws.{Frames, focus_at}
 use Rattle.edits.specs.Storing.{Edit}
-use Rattle.edits.specs.Removing.{gives, removed_of, remove_on}
-use Rattle.edits.specs.declared.Removal.{Removal}
-use Rattle.edits.specs.declared.Removal.TheVariants.{Removed, Absent}
+use Rattle.edits.specs.Removing.{Removal, gives, removed_of, remove_on}
 use Rattle.grafts.proofs.RemoveCasesLaws.{Goes, goes-here}
 
 -- ---- where the key is stored, the walk ended at its node
@@ -72,25 +68,6 @@ module _ {ws : List ℕ} {m : Map} (h : Holds ws m) (k : Prefix) (valid : Valid 
       (find-focus top h.tree (string_of k) ∙ i) w (focus_at ws k valid m h).frames (sym (plug-focus top h.tree (string_of k)))
       (sym (pull-remove_tree (string_of k) top h.tree))
 
--- ---- what the walk noted
-
-found_none : (k : Prefix) (n : ℕ) (s : Walk) → found_of k n s ≡ fetched.Absent n → eqb s.best (k.width + 1) ≡ false
-unfolding found_of
-found_none k n s h = at (eqb s.best (k.width + 1)) h
-  where
-    at : (b : Bool) → cond b (fetched.Found n s.zone) (fetched.Absent n) ≡ fetched.Absent n → b ≡ false
-    at true h = cc
-    at false h = refl
-
-found_some : (k : Prefix) (n z : ℕ) (s : Walk) → found_of k n s ≡ fetched.Found n z
-    → (eqb s.best (k.width + 1) ≡ true) × (s.zone ≡ z)
-unfolding found_of
-found_some k n z s h = at (eqb s.best (k.width + 1)) h
-  where
-    at : (b : Bool) → cond b (fetched.Found n s.zone) (fetched.Absent n) ≡ fetched.Found n z → (b ≡ true) × (s.zone ≡ z)
-    at true h = (refl, cc)
-    at false h = (cc, cc)
-
 -- ---- remove_on
 
 pub record RemoveHolds (ws : List ℕ) (k : Prefix) (bs : List ℕ) (m : Map) (x : Edit Removal) : Type 0 where
@@ -111,26 +88,25 @@ module _ (ws : List ℕ) (k : Prefix) (bs : List ℕ) (m : Map) (h : Holds ws m)
   bytes_left : paste bs 0 widths ends.number ≡ trail (keys m) (string_of k) ++ drop (length (path (keys m) (string_of k))) bs
   bytes_left = rw ends.out at (leave_on_holds ws k bs ts m h valid room refl)
 
-  found : found_of k ends.number ends.last ≡ fetching.gives ends.number (get (string_of k) m)
-  found = found_of_holds ws k m h valid ends.number ends.last ends.noted
+  abbrev ended : Path
+  ended = record { nodes = ends.number; walk = ends.last; met = ends.met }
 
-  abbrev result : Edit Removal
-  result = removed_of ws k bs widths (Path ends.number ends.last ends.met)
+  stored : stored_in k.width ends.last.longest ≡ given (get (string_of k) m)
+  stored = get-noted ws m h k ends.last valid ends.noted
 
-  removed_of_holds : (o : Option ℕ) → get (string_of k) m ≡ o → RemoveHolds ws k bs m result
+  removed_of_holds : (o : Option ℕ) → get (string_of k) m ≡ o → RemoveHolds ws k bs m (removed_of ws k bs widths (Ok ended))
   removed_of_holds none g =
-      rw (found_none k ends.number ends.last (rw g at found))
+      rw (stored, g)
       (record {
-        answer = rw g (ap Absent ends.number_is);
+        answer = rw g (ap (λ (n : ℕ). Err (Absent n)) ends.number_is);
         bytes = bytes_left;
         holds = rw (without-none (string_of k) m g) h;
       })
   removed_of_holds (some z) g =
-      let i = found_some k ends.number z ends.last (rw g at found) in
       let p = goes_stored h k valid z ends.last ends.met g ends.ended in
-      rw (i.0, p.planned_is)
+      rw (stored, g, p.planned_is)
       (record {
-        answer = rw (g, i.1) (ap (λ (n : ℕ). Removed n z) ends.number_is);
+        answer = rw g (ap (λ (n : ℕ). Ok (record { nodes = n; value = z })) ends.number_is);
         bytes = bytes_left;
         holds = p.holds;
       })

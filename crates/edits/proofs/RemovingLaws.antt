@@ -1,77 +1,71 @@
 -- The laws of remove: one for each way out, and the one that makes the contract of the answer.
 -- No contract cites this file.
 -- Assumes nothing.
-use Prim.Native.Nat.{ℕ, suc, ◌+◌}
+use Prim.Native.Nat.{ℕ}
 use mathlib.Core.Path.{◌≡◌, refl, sym, ap, subst, ◌∙◌}
-use mathlib.Core.Bool.{Bool, true, false, cond}
+use mathlib.Core.Bool.{true}
 use mathlib.Core.List.{List, [], ◌∷◌}
-use lib.Dec.{eqb}
 use lib.ListN.{length, replicate}
 use lib.Seq.{paste}
-use borrow.Author.Tests.{eq-eqb, ne_eqb}
-use Rattle.refusals.specs.Refusals.{OneOf, GivenExactly}
+use Rattle.std.specs.Prelude.{Option, Some, None, Result, Ok, Err}
+use Rattle.std.specs.Result.{result_or}
+use Rattle.refusals.specs.Refusals.{number_of, OneOf, GivenExactly}
+use Rattle.refusals.specs.declared.Refusal.{Refusal}
+use Rattle.refusals.specs.declared.Refusal.TheVariants.{Damaged, Absent}
 use Rattle.prefix.specs.declared.Prefix.{Prefix}
-use Rattle.lookup.specs.Walking.{survey_on, first_refusal, leaves_all}
-use Rattle.lookup.specs.declared.Walk.{Walk}
-use Rattle.lookup.specs.declared.Met.{Met}
-use Rattle.lookup.specs.declared.Surveyed.{Surveyed}
-use Rattle.lookup.specs.declared.Surveyed.TheVariants as surveyed
-use Rattle.lookup.proofs.SurveyLaws.{refusal_of, survey_on-given}
+use Rattle.lookup.specs.Walking.{survey_on, first_refusal, leaves_all, stored_in}
+use Rattle.lookup.specs.declared.Path.{Path}
+use Rattle.lookup.proofs.SurveyLaws.{survey_on-given, nodes_kept}
 use Rattle.plans.specs.Planning.{plan_remove_on}
-use Rattle.plans.specs.Planned.{Planned}
-use Rattle.plans.specs.Planned as planned
+use Rattle.plans.specs.Plans.{Plan}
 use Rattle.plans.specs.Limits.{ThreeRecords}
 use Rattle.plans.specs.Making.{made_of, left_by, Makes}
-use Rattle.plans.specs.declared.Made.{Made}
-use Rattle.plans.specs.declared.Made.TheVariants as made
+use Rattle.plans.specs.declared.Unmade.{Unmade}
 use Rattle.edits.specs.Storing.{Edit, refused}
-use Rattle.edits.specs.Removing.{removed_by, removed_of, remove_on, number_of, values_of, Remove}
-use Rattle.edits.specs.declared.Removal.{Removal}
-use Rattle.edits.specs.declared.Removal.TheVariants.{Removed, Damaged, Absent}
+use Rattle.edits.specs.Removing.{Removal, removed_by, removed_at, removed_of, remove_on, values_of, Remove}
 use Rattle.edits.proofs.ThreeLaws.{remove_on_three, remove_on-refused}
 use Rattle.edits.proofs.RemoveHoldsLaws.{remove_on_holds}
 use Rattle.edits.proofs.StoringLaws.{holds_words}
 
--- ---- remove_on, where the survey gives x, and y is made and leaves the words `now`
+-- ---- remove_on: where the survey is refused, and where it ends with the path p, and the plan is made or not and
+-- leaves the words `now`
 
-abbrev removed_as : List ℕ → List ℕ → ℕ → Walk → List ℕ → Made → Edit Removal
-removed_as bs ts n s now made.Done = record { answer = Removed n s.zone; bytes = paste bs 0 ts n; words = now }
-removed_as bs ts n s now made.Damaged = refused Damaged bs now
-removed_as bs ts n s now made.Full = refused Damaged bs now
+pub remove_on-survey : (ws : List ℕ) (k : Prefix) (bs us : List ℕ) (e : Refusal)
+    → survey_on ws k (length bs) (replicate 129 0) ≡ record { widths = us; out = Err e } → remove_on ws k bs ≡ refused (Err e) bs ws
+unfolding remove_on
+remove_on-survey ws k bs us e h = rw h
 
-removed_by_made : (ws bs ts : List ℕ) (n : ℕ) (s : Walk) (p : Planned)
-    → removed_by ws bs ts n s p ≡ removed_as bs ts n s (left_by ws p) (made_of p)
-removed_by_made ws bs ts n s (planned.Go p) = refl
-removed_by_made ws bs ts n s planned.Damaged = refl
-removed_by_made ws bs ts n s planned.Full = refl
+abbrev removed_as : List ℕ → List ℕ → ℕ → ℕ → List ℕ → Result Unit Unmade → Edit Removal
+removed_as bs ts n z now (Ok x) = record { answer = Ok (record { nodes = n; value = z }); bytes = paste bs 0 ts n; words = now }
+removed_as bs ts n z now (Err d) = refused (Err Damaged) bs now
 
-module _ (ws : List ℕ) (k : Prefix) (bs us : List ℕ) (x : Surveyed)
-    (e : survey_on ws k (length bs) (replicate 129 0) ≡ record { widths = us; out = x }) where
-  -- for a refusal y this is the whole answer, with the trail and the words as they were
-  pub remove_on-survey : (y : Surveyed) → x ≡ y → remove_on ws k bs ≡ removed_of ws k bs us y
+removed_by_made : (ws bs ts : List ℕ) (n z : ℕ) (p : Result Plan Unmade)
+    → removed_by ws bs ts n z p ≡ removed_as bs ts n z (left_by ws p) (made_of p)
+removed_by_made ws bs ts n z (Ok p) = refl
+removed_by_made ws bs ts n z (Err d) = refl
+
+module _ (ws : List ℕ) (k : Prefix) (bs us : List ℕ) (p : Path)
+    (e : survey_on ws k (length bs) (replicate 129 0) ≡ record { widths = us; out = Ok p }) where
+  pub remove_on-absent : (after : List ℕ) → None ≡ stored_in k.width p.walk.longest → after ≡ paste bs 0 us p.nodes
+      → remove_on ws k bs ≡ record { answer = Err (Absent p.nodes); bytes = after; words = ws }
   unfolding remove_on
-  remove_on-survey y q = rw (e, q)
+  remove_on-absent after h g = rw (e, ← h, g)
 
-  module _ (n : ℕ) (s : Walk) (m : Met) (q : x ≡ surveyed.Path n s m) where
-    pub remove_on-absent : (after : List ℕ) → (s.best ≡ k.width + 1 → ⊥) → after ≡ paste bs 0 us n
-        → remove_on ws k bs ≡ record { answer = Absent n; bytes = after; words = ws }
-    remove_on-absent after h g = remove_on-survey (surveyed.Path n s m) q ∙ simp (ne_eqb _ _ h, g)
+  module _ (z : ℕ) (h : Some z ≡ stored_in k.width p.walk.longest) (now : List ℕ) where
+    remove_on_made : (r : Result Unit Unmade) → Makes ws (plan_remove_on ws k p.walk) r now → remove_on ws k bs ≡ removed_as bs us p.nodes z now r
+    unfolding remove_on
+    remove_on_made r f = rw (e, ← h, f.answer, f.words) (removed_by_made ws bs us p.nodes z (plan_remove_on ws k p.walk))
 
-    module _ (y : Made) (now : List ℕ) (f : Makes ws (plan_remove_on ws k s) y now) (h : s.best ≡ k.width + 1) where
-      remove_on_made : remove_on ws k bs ≡ removed_as bs us n s now y
-      remove_on_made =
-          remove_on-survey (surveyed.Path n s m) q
-          ∙ rw (eq-eqb s.best (k.width + 1) h, f.answer, f.words) (removed_by_made ws bs us n s (plan_remove_on ws k s))
+    pub remove_on_unmade : (r : Result Unit Unmade) (d : Refusal) → Makes ws (plan_remove_on ws k p.walk) r now → Err d ≡ result_or r (Err Damaged)
+        → remove_on ws k bs ≡ refused (Err d) bs now
+    remove_on_unmade (Ok x) d f g = cc
+    remove_on_unmade (Err e) d f g = let q : d ≡ Damaged = cc in rw q (remove_on_made (Err e) f)
 
-      pub remove_on_damaged : y ≡ made.Damaged → remove_on ws k bs ≡ refused Damaged bs now
-      remove_on_damaged g = rw g at remove_on_made
-
-      pub remove_on_full : y ≡ made.Full → remove_on ws k bs ≡ refused Damaged bs now
-      remove_on_full g = rw g at remove_on_made
-
-      pub remove_on_done : (after : List ℕ) → y ≡ made.Done → after ≡ paste bs 0 us n
-          → remove_on ws k bs ≡ record { answer = Removed n s.zone; bytes = after; words = now }
-      remove_on_done after g i = rw i (rw g at remove_on_made)
+    pub remove_on_done : (r : Result Unit Unmade) (x : Unit) (after : List ℕ) → Makes ws (plan_remove_on ws k p.walk) r now
+        → Ok x ≡ result_or {D = Refusal} r (Err Damaged) → after ≡ paste bs 0 us p.nodes
+        → remove_on ws k bs ≡ record { answer = Ok (record { nodes = p.nodes; value = z }); bytes = after; words = now }
+    remove_on_done (Ok y) x after f g h = rw h (remove_on_made (Ok y) f)
+    remove_on_done (Err e) x after f g h = cc
 
 -- ---- what any answer of remove_on shows
 
@@ -82,49 +76,29 @@ Exact first o = GivenExactly first (0 ∷ 6 ∷ 7 ∷ []) (number_of o.answer)
 abbrev Kept : List ℕ → Edit Removal → Type 0
 Kept bs o = leaves_all (number_of o.answer) ≡ true → (values_of o.answer ≡ 0 ∷ 0 ∷ []) × (o.bytes ≡ bs)
 
-module _ (ws bs ts : List ℕ) (n : ℕ) (s : Walk) where
-  removed_by_kept : (y : Planned) → Kept bs (removed_by ws bs ts n s y)
+module _ (ws bs ts : List ℕ) (n : ℕ) where
+  removed_at-given : (o : Option ℕ) (y : Result Plan Unmade) → OneOf (0 ∷ 6 ∷ 7 ∷ []) (number_of (removed_at ws bs ts n o y).answer)
+  removed_at-given (Some z) (Ok p) = tt
+  removed_at-given (Some z) (Err d) = tt
+  removed_at-given None y = tt
+
+  removed_at_kept : (o : Option ℕ) (y : Result Plan Unmade) → Kept bs (removed_at ws bs ts n o y)
   unfolding leaves_all
-  removed_by_kept (planned.Go p) h = (cc, cc)
-  removed_by_kept planned.Damaged h = (refl, refl)
-  removed_by_kept planned.Full h = (refl, refl)
+  removed_at_kept (Some z) (Ok p) h = (cc, cc)
+  removed_at_kept (Some z) (Err d) h = (refl, refl)
+  removed_at_kept None y h = (cc, cc)
 
-  -- where the key is stored or not
-  removed_at-given : (b : Bool) (y : Planned)
-      → OneOf (0 ∷ 6 ∷ 7 ∷ []) (number_of (cond b (removed_by ws bs ts n s y) (record { answer = Absent n; bytes = paste bs 0 ts n; words = ws })).answer)
-  removed_at-given true (planned.Go p) = tt
-  removed_at-given true planned.Damaged = tt
-  removed_at-given true planned.Full = tt
-  removed_at-given false y = tt
-
-  removed_at_kept : (b : Bool) (y : Planned)
-      → Kept bs (cond b (removed_by ws bs ts n s y) (record { answer = Absent n; bytes = paste bs 0 ts n; words = ws }))
-  unfolding leaves_all
-  removed_at_kept true y h = removed_by_kept y h
-  removed_at_kept false y h = (cc, cc)
-
-module _ (ws : List ℕ) (k : Prefix) (bs ts : List ℕ) where
-  removed_of-number : (x : Surveyed) (n : ℕ) → refusal_of x ≡ suc n → number_of (removed_of ws k bs ts x).answer ≡ suc n
-  removed_of-number (surveyed.Path n s e) m h = cc
-  removed_of-number surveyed.BadLength m h = h
-  removed_of-number surveyed.BadPrefix m h = h
-  removed_of-number surveyed.ShortOut m h = h
-  removed_of-number surveyed.Damaged m h = h
-
-  removed_of_kept : (x : Surveyed) → Kept bs (removed_of ws k bs ts x)
-  removed_of_kept (surveyed.Path n s e) h = removed_at_kept ws bs ts n s (eqb s.best (k.width + 1)) (plan_remove_on ws k s) h
-  removed_of_kept surveyed.BadLength h = (refl, refl)
-  removed_of_kept surveyed.BadPrefix h = (refl, refl)
-  removed_of_kept surveyed.ShortOut h = (refl, refl)
-  removed_of_kept surveyed.Damaged h = (refl, refl)
+removed_of_kept : (ws : List ℕ) (k : Prefix) (bs ts : List ℕ) (x : Result Path Refusal) → Kept bs (removed_of ws k bs ts x)
+removed_of_kept ws k bs ts (Ok p) h = removed_at_kept ws bs ts p.nodes (stored_in k.width p.walk.longest) (plan_remove_on ws k p.walk) h
+removed_of_kept ws k bs ts (Err e) h = (rw (nodes_kept e h), refl)
 
 module _ (ws : List ℕ) (k : Prefix) (bs : List ℕ) where
   remove_on_exact : Exact (first_refusal ws k (length bs)) (remove_on ws k bs)
   unfolding remove_on
   remove_on_exact =
       let ts = (survey_on ws k (length bs) (replicate 129 0)).widths in
-      survey_on-given ws k (length bs) (replicate 129 0) (λ x. number_of (removed_of ws k bs ts x).answer) _ (removed_of-number ws k bs ts)
-      (λ n s e. removed_at-given ws bs ts n s (eqb s.best (k.width + 1)) (plan_remove_on ws k s)) tt
+      survey_on-given ws k (length bs) (replicate 129 0) (λ x. number_of (removed_of ws k bs ts x).answer) _ (λ e. refl)
+      (λ p. removed_at-given ws bs ts p.nodes (stored_in k.width p.walk.longest) (plan_remove_on ws k p.walk)) tt
 
   remove_on_kept : Kept bs (remove_on ws k bs)
   unfolding remove_on

@@ -2,14 +2,13 @@
 -- and words that hold the map with the entry put in, or as they were where that has too many nodes.
 -- No contract cites this file.
 -- Assumes nothing.
-use Prim.Native.Nat.{ℕ, ◌+◌, ◌≤◌}
-use mathlib.Core.Path.{◌≡◌, refl, sym, ap, ◌∙◌}
-use mathlib.Core.Bool.{Bool, true, false, cond}
+use Prim.Native.Nat.{ℕ, ◌≤◌}
+use mathlib.Core.Path.{◌≡◌, refl, sym}
+use mathlib.Core.Bool.{false, cond}
 use mathlib.Core.List.{List, ◌++◌}
-use mathlib.Core.Option.{none, some}
-use lib.Dec.{eqb}
 use lib.ListN.{length, drop, replicate}
 use lib.Seq.{paste}
+use Rattle.std.specs.Prelude.{Result}
 use Rattle.prefix.specs.Keys.{string_of, Valid}
 use Rattle.prefix.specs.declared.Prefix.{Prefix}
 use Rattle.zones.specs.Maps.{Map, keys, get, put}
@@ -19,18 +18,19 @@ use Rattle.zones.specs.Focus.{Context, top, focus}
 use Rattle.zones.proofs.FocusLaws.{stop_equal, stop_above, stop_apart, Ends, focus-ends, plug-focus, plug-put_tree}
 use Rattle.records.specs.Layout.{capacity}
 use Rattle.records.specs.Holds.{Holds}
-use Rattle.lookup.specs.Walking.{survey_on}
+use Rattle.lookup.specs.Walking.{survey_on, stored_in}
+use Rattle.lookup.specs.Fetching.{given}
+use Rattle.lookup.specs.declared.Path.{Path}
 use Rattle.lookup.specs.declared.Walk.{Walk}
 use Rattle.lookup.specs.declared.Met.{Met}
 use Rattle.lookup.proofs.HoldsLaws.{leave_on_holds, get-noted}
 use Rattle.lookup.proofs.FramesLaws.{focus_at}
 use Rattle.lookup.proofs.EndsLaws.{Ended, survey_on-ends}
 use Rattle.plans.specs.Planning.{entry_of, plan_store_on}
-use Rattle.plans.specs.Planned.{Planned}
+use Rattle.plans.specs.Plans.{Plan}
+use Rattle.plans.specs.declared.Unmade.{Unmade}
 use Rattle.plans.proofs.AppliedLaws.{length-applied}
-use Rattle.edits.specs.Storing.{Edit, accepted_of, stored_by, store_on, says, gives}
-use Rattle.edits.specs.declared.Stored.{Stored}
-use Rattle.edits.specs.declared.Stored.TheVariants.{Added, Replaced}
+use Rattle.edits.specs.Storing.{Edit, Stored, stored_by, store_on, gives}
 use Rattle.grafts.proofs.PutHoldsLaws.{overflows_holds, Spot}
 use Rattle.grafts.proofs.StoreCasesLaws.{Plans, goes, short, plans-tip, plans-here, plans_above, plans_apart}
 
@@ -63,22 +63,13 @@ pub record StoreHolds (ws : List ℕ) (k : Prefix) (z : ℕ) (bs : List ℕ) (m 
   pub bytes : x.bytes ≡ trail (keys m) (string_of k) ++ drop (length (path (keys m) (string_of k))) bs
   pub holds : Holds x.words (cond (overflows (capacity (length ws)) (entry_of k z) m) m (put (entry_of k z) m))
 
-accepted_of-says : (k : Prefix) (n : ℕ) (s : Walk)
-    → accepted_of k n s ≡ says n (cond (eqb s.best (k.width + 1)) (some s.zone) none)
-unfolding accepted_of
-accepted_of-says k n s = at (eqb s.best (k.width + 1))
-  where
-    at : (b : Bool) → cond b (Replaced n s.zone) (Added n) ≡ says n (cond b (some s.zone) none)
-    at true = refl
-    at false = refl
-
-module _ (ws : List ℕ) (k : Prefix) (z : ℕ) (bs : List ℕ) (m : Map) (h : Holds ws m) (ts : List ℕ) (n : ℕ) (s : Walk)
-    (number : n ≡ length (path (keys m) (string_of k))) (says-old : accepted_of k n s ≡ says n (get (string_of k) m))
-    (written : paste bs 0 ts n ≡ trail (keys m) (string_of k) ++ drop (length (path (keys m) (string_of k))) bs) where
-  stored_by_holds : (r : Planned) → Plans ws k z m r → StoreHolds ws k z bs m (stored_by ws k bs ts n s r)
-  stored_by_holds r (goes p e g) =
-      let o : overflows (capacity (length ws)) (entry_of k z) m ≡ false = overflows_holds ws _ k z m g (length-applied ws p) in
-      rw e (record { answer = rw (o, ← number) says-old; bytes = written; holds = rw o g })
+module _ (ws : List ℕ) (k : Prefix) (z : ℕ) (bs : List ℕ) (m : Map) (h : Holds ws m) (ts : List ℕ) (p : Path)
+    (number : p.nodes ≡ length (path (keys m) (string_of k))) (old : stored_in k.width p.walk.longest ≡ given (get (string_of k) m))
+    (written : paste bs 0 ts p.nodes ≡ trail (keys m) (string_of k) ++ drop (length (path (keys m) (string_of k))) bs) where
+  stored_by_holds : (r : Result Plan Unmade) → Plans ws k z m r → StoreHolds ws k z bs m (stored_by ws k bs ts p r)
+  stored_by_holds r (goes q e g) =
+      let o : overflows (capacity (length ws)) (entry_of k z) m ≡ false = overflows_holds ws _ k z m g (length-applied ws q) in
+      rw e (record { answer = rw (o, ← number, ← old); bytes = written; holds = rw o g })
   stored_by_holds r (short e o) = rw e (record { answer = rw (o, ← number); bytes = written; holds = rw o h })
 
 pub store_on_holds : (ws : List ℕ) (k : Prefix) (z : ℕ) (bs : List ℕ) (m : Map) → Holds ws m → Valid k → 129 ≤ length bs
@@ -89,7 +80,7 @@ store_on_holds ws k z bs m h valid room =
     let w = survey_on-ends ws m k (length bs) ts h valid room in
     let plans = plans-ended (focus top h.tree (string_of k)).below (spot-focus h k z valid) w.last w.met
     (focus-ends top h.tree (string_of k)) w.ended in
-    let old = accepted_of-says k w.number w.last ∙ ap (says w.number) (get-noted ws m h k w.last valid w.noted) in
     rw w.out
-    (stored_by_holds ws k z bs m h (survey_on ws k (length bs) ts).widths w.number w.last w.number_is old
+    (stored_by_holds ws k z bs m h (survey_on ws k (length bs) ts).widths (record { nodes = w.number; walk = w.last; met = w.met })
+    w.number_is (get-noted ws m h k w.last valid w.noted)
     (rw w.out at (leave_on_holds ws k bs ts m h valid room refl)) (plan_store_on ws k z w.last w.met) plans)

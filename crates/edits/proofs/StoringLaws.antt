@@ -2,107 +2,93 @@
 -- contract of the answer.
 -- No contract cites this file.
 -- Assumes nothing.
-use Prim.Native.Nat.{ℕ, suc, ◌+◌, ◌≤◌}
+use Prim.Native.Nat.{ℕ, ◌≤◌}
 use mathlib.Core.Path.{◌≡◌, refl, sym, ap, subst, ◌∙◌}
-use mathlib.Core.Bool.{true, false}
+use mathlib.Core.Bool.{true}
 use mathlib.Core.List.{List, [], ◌∷◌}
 use lib.ListN.{length, replicate}
 use lib.Seq.{paste}
-use borrow.Author.Tests.{eq-eqb, ne_eqb}
-use Rattle.refusals.specs.Refusals.{OneOf, GivenExactly}
+use Rattle.std.specs.Prelude.{Option, Result, Ok, Err}
+use Rattle.std.specs.Result.{IsErr, IsErrAnd}
+use Rattle.refusals.specs.Refusals.{number_of, OneOf, GivenExactly}
+use Rattle.refusals.specs.declared.Refusal.{Refusal}
+use Rattle.refusals.specs.declared.Refusal.TheVariants.{Damaged, Full}
 use Rattle.prefix.specs.declared.Prefix.{Prefix}
 use Rattle.zones.specs.Maps.{Map}
 use Rattle.records.specs.Holds.{Holds}
 use Rattle.records.proofs.LayoutLaws.{is_table_true}
-use Rattle.lookup.specs.Walking.{Survey, walk_from, survey_on, first_refusal, leaves_all}
-use Rattle.lookup.specs.declared.Walk.{Walk}
-use Rattle.lookup.specs.declared.Met.{Met}
-use Rattle.lookup.specs.declared.Surveyed.{Surveyed}
-use Rattle.lookup.specs.declared.Surveyed.TheVariants as surveyed
-use Rattle.lookup.proofs.SurveyLaws.{survey_on-cases, refusal_of, survey_on-given}
+use Rattle.lookup.specs.Walking.{Survey, walk_from, survey_on, first_refusal, leaves_all, stored_in}
+use Rattle.lookup.specs.declared.Path.{Path}
+use Rattle.lookup.proofs.SurveyLaws.{survey_on-cases, survey_on-given, nodes_kept}
 use Rattle.plans.specs.Planning.{plan_store_on}
-use Rattle.plans.specs.Planned.{Planned}
-use Rattle.plans.specs.Planned as planned
+use Rattle.plans.specs.Plans.{Plan}
 use Rattle.plans.specs.Limits.{ThreeRecords}
 use Rattle.plans.specs.Making.{made_of, left_by, Makes}
-use Rattle.plans.specs.declared.Made.{Made}
-use Rattle.plans.specs.declared.Made.TheVariants as made
-use Rattle.edits.specs.Storing.{Edit, refused, accepted_of, stored_by, stored_of, store_on, number_of, values_of, Store}
-use Rattle.edits.specs.declared.Stored.{Stored}
-use Rattle.edits.specs.declared.Stored.TheVariants.{Added, Replaced, Damaged, Full}
-use Rattle.edits.proofs.ThreeLaws.{number_of-accepted_of, store_on_three, store_on-refused}
+use Rattle.plans.specs.declared.Unmade.{Unmade}
+use Rattle.plans.specs.declared.Unmade.TheVariants as unmade
+use Rattle.edits.specs.Storing.{Edit, refused, Stored, accepted_of, stored_by, stored_of, store_on, values_of, Store}
+use Rattle.edits.proofs.ThreeLaws.{store_on_three, store_on-refused}
 use Rattle.edits.proofs.StoreHoldsLaws.{store_on_holds}
+
+-- ---- what a `?` passes on
+
+pub passed : {A : Type 0} (r : Result A Refusal) (e : Refusal) → IsErr r × IsErrAnd r (λ d. d ≡ e) → r ≡ Err e
+passed (Ok x) e h = absurd h.1
+passed (Err d) e h = rw h.1
 
 -- ---- survey_on: words with a path are long enough for a header and a record
 
-abbrev Long : List ℕ → Surveyed → Type 0
-Long ws (surveyed.Path n s e) = 16 ≤ length ws
-Long ws surveyed.BadLength = Unit {0}
-Long ws surveyed.BadPrefix = Unit {0}
-Long ws surveyed.ShortOut = Unit {0}
-Long ws surveyed.Damaged = Unit {0}
+abbrev Long : List ℕ → Result Path Refusal → Type 0
+Long ws (Ok p) = 16 ≤ length ws
+Long ws (Err e) = Unit {0}
 
-long-any : (ws : List ℕ) (x : Surveyed) → 16 ≤ length ws → Long ws x
-long-any ws (surveyed.Path n s e) h = h
-long-any ws surveyed.BadLength h = tt
-long-any ws surveyed.BadPrefix h = tt
-long-any ws surveyed.ShortOut h = tt
-long-any ws surveyed.Damaged h = tt
+long-any : (ws : List ℕ) (x : Result Path Refusal) → 16 ≤ length ws → Long ws x
+long-any ws (Ok p) h = h
+long-any ws (Err e) h = tt
 
-module _ (ws : List ℕ) (k : Prefix) (room : ℕ) (ts us : List ℕ) (x : Surveyed) (n : ℕ) (s : Walk) (y : Met) where
-  pub survey_on-long : survey_on ws k room ts ≡ record { widths = us; out = x } → x ≡ surveyed.Path n s y → 16 ≤ length ws
-  survey_on-long e q =
-      let all : Long ws (survey_on ws k room ts).out =
-      survey_on-cases ws k room ts (λ v. Long ws v.out) (λ a. tt) (λ a b. tt) (λ a b c. tt)
-      (λ a b c. long-any ws (walk_from ws k ts).out (is_table_true (length ws) a).least) in
-      subst (Long ws) (ap (λ (v : Survey). v.out) e ∙ q) all
+pub survey_on-long : (ws : List ℕ) (k : Prefix) (room : ℕ) (ts us : List ℕ) (p : Path)
+    → survey_on ws k room ts ≡ record { widths = us; out = Ok p } → 16 ≤ length ws
+survey_on-long ws k room ts us p e =
+    subst (λ (v : Survey). Long ws v.out) e
+    (survey_on-cases ws k room ts (λ v. Long ws v.out) (λ a. tt) (λ a b. tt) (λ a b c. tt)
+    (λ a b c. long-any ws (walk_from ws k ts).out (is_table_true (length ws) a).least))
 
--- ---- accepted_of
+-- ---- store_on: where the survey is refused, and where it ends with the path p, and the plan is made or not and
+-- leaves the words `now`
 
-module _ (k : Prefix) (n : ℕ) (s : Walk) where
-  pub accepted_of-replaced : s.best ≡ k.width + 1 → Replaced n s.zone ≡ accepted_of k n s
-  unfolding accepted_of
-  accepted_of-replaced h = simp (eq-eqb _ _ h)
+pub store_on-survey : (ws : List ℕ) (k : Prefix) (z : ℕ) (bs us : List ℕ) (e : Refusal)
+    → survey_on ws k (length bs) (replicate 129 0) ≡ record { widths = us; out = Err e } → store_on ws k z bs ≡ refused (Err e) bs ws
+unfolding store_on
+store_on-survey ws k z bs us e h = rw h
 
-  pub accepted_of_added : (s.best ≡ k.width + 1 → ⊥) → Added n ≡ accepted_of k n s
-  unfolding accepted_of
-  accepted_of_added h = simp (ne_eqb _ _ h)
+abbrev stored_as : Prefix → List ℕ → List ℕ → Path → List ℕ → Result Unit Unmade → Edit Stored
+stored_as k bs ts p now (Ok x) = record { answer = accepted_of k p; bytes = paste bs 0 ts p.nodes; words = now }
+stored_as k bs ts p now (Err unmade.Damaged) = refused (Err Damaged) bs now
+stored_as k bs ts p now (Err unmade.Full) = record { answer = Err (Full p.nodes); bytes = paste bs 0 ts p.nodes; words = now }
 
--- ---- store_on, where the survey gives x, and y is made and leaves the words `now`
+stored_by_made : (ws : List ℕ) (k : Prefix) (bs ts : List ℕ) (p : Path) (x : Result Plan Unmade)
+    → stored_by ws k bs ts p x ≡ stored_as k bs ts p (left_by ws x) (made_of x)
+stored_by_made ws k bs ts p (Ok q) = refl
+stored_by_made ws k bs ts p (Err unmade.Damaged) = refl
+stored_by_made ws k bs ts p (Err unmade.Full) = refl
 
-abbrev stored_as : Prefix → List ℕ → List ℕ → ℕ → Walk → List ℕ → Made → Edit Stored
-stored_as k bs ts n s now made.Done = record { answer = accepted_of k n s; bytes = paste bs 0 ts n; words = now }
-stored_as k bs ts n s now made.Damaged = refused Damaged bs now
-stored_as k bs ts n s now made.Full = record { answer = Full n; bytes = paste bs 0 ts n; words = now }
-
-stored_by_made : (ws : List ℕ) (k : Prefix) (bs ts : List ℕ) (n : ℕ) (s : Walk) (p : Planned)
-    → stored_by ws k bs ts n s p ≡ stored_as k bs ts n s (left_by ws p) (made_of p)
-stored_by_made ws k bs ts n s (planned.Go p) = refl
-stored_by_made ws k bs ts n s planned.Damaged = refl
-stored_by_made ws k bs ts n s planned.Full = refl
-
-module _ (ws : List ℕ) (k : Prefix) (z : ℕ) (bs us : List ℕ) (x : Surveyed)
-    (e : survey_on ws k (length bs) (replicate 129 0) ≡ record { widths = us; out = x }) where
-  -- for a refusal y this is the whole answer, with the trail and the words as they were
-  pub store_on-survey : (y : Surveyed) → x ≡ y → store_on ws k z bs ≡ stored_of ws k z bs us y
+module _ (ws : List ℕ) (k : Prefix) (z : ℕ) (bs us : List ℕ) (p : Path)
+    (e : survey_on ws k (length bs) (replicate 129 0) ≡ record { widths = us; out = Ok p }) (now : List ℕ) where
+  store_on_made : (r : Result Unit Unmade) → Makes ws (plan_store_on ws k z p.walk p.met) r now → store_on ws k z bs ≡ stored_as k bs us p now r
   unfolding store_on
-  store_on-survey y q = rw (e, q)
+  store_on_made r f = rw (e, f.answer, f.words) (stored_by_made ws k bs us p (plan_store_on ws k z p.walk p.met))
 
-  module _ (n : ℕ) (s : Walk) (m : Met) (q : x ≡ surveyed.Path n s m) (y : Made) (now : List ℕ)
-      (f : Makes ws (plan_store_on ws k z s m) y now) where
-    store_on_made : store_on ws k z bs ≡ stored_as k bs us n s now y
-    store_on_made = store_on-survey (surveyed.Path n s m) q ∙ rw (f.answer, f.words) (stored_by_made ws k bs us n s (plan_store_on ws k z s m))
+  pub store_on_damaged : Makes ws (plan_store_on ws k z p.walk p.met) (Err unmade.Damaged) now → store_on ws k z bs ≡ refused (Err Damaged) bs now
+  store_on_damaged = store_on_made (Err unmade.Damaged)
 
-    pub store_on_damaged : y ≡ made.Damaged → store_on ws k z bs ≡ refused Damaged bs now
-    store_on_damaged g = rw g at store_on_made
+  pub store_on_full : (after : List ℕ) → Makes ws (plan_store_on ws k z p.walk p.met) (Err unmade.Full) now → after ≡ paste bs 0 us p.nodes
+      → store_on ws k z bs ≡ record { answer = Err (Full p.nodes); bytes = after; words = now }
+  store_on_full after f h = rw h (store_on_made (Err unmade.Full) f)
 
-    pub store_on_full : (after : List ℕ) → y ≡ made.Full → after ≡ paste bs 0 us n
-        → store_on ws k z bs ≡ record { answer = Full n; bytes = after; words = now }
-    store_on_full after g h = rw h (rw g at store_on_made)
-
-    pub store_on_done : (r : Stored) (after : List ℕ) → y ≡ made.Done → r ≡ accepted_of k n s → after ≡ paste bs 0 us n
-        → store_on ws k z bs ≡ record { answer = r; bytes = after; words = now }
-    store_on_done r after g h i = rw (h, i) (rw g at store_on_made)
+  pub store_on_done : (after : List ℕ) (o : Option ℕ) → Makes ws (plan_store_on ws k z p.walk p.met) (Ok tt) now
+      → o ≡ stored_in k.width p.walk.longest → after ≡ paste bs 0 us p.nodes
+      → store_on ws k z bs ≡ record { answer = Ok (record { nodes = p.nodes; value = o }); bytes = after; words = now }
+  store_on_done after o f g h = rw (g, h) (store_on_made (Ok tt) f)
 
 -- ---- what any answer of store_on shows
 
@@ -113,40 +99,29 @@ Exact first o = GivenExactly first (0 ∷ 6 ∷ 8 ∷ []) (number_of o.answer)
 abbrev Kept : List ℕ → Edit Stored → Type 0
 Kept bs o = leaves_all (number_of o.answer) ≡ true → (values_of o.answer ≡ 0 ∷ 0 ∷ 0 ∷ []) × (o.bytes ≡ bs)
 
-module _ (ws : List ℕ) (k : Prefix) (bs ts : List ℕ) (n : ℕ) (s : Walk) where
-  stored_by-given : (y : Planned) → OneOf (0 ∷ 6 ∷ 8 ∷ []) (number_of (stored_by ws k bs ts n s y).answer)
-  stored_by-given (planned.Go p) = rw (number_of-accepted_of k n s) tt
-  stored_by-given planned.Damaged = tt
-  stored_by-given planned.Full = tt
+module _ (ws : List ℕ) (k : Prefix) (bs ts : List ℕ) (p : Path) where
+  stored_by-given : (y : Result Plan Unmade) → OneOf (0 ∷ 6 ∷ 8 ∷ []) (number_of (stored_by ws k bs ts p y).answer)
+  stored_by-given (Ok q) = tt
+  stored_by-given (Err unmade.Damaged) = tt
+  stored_by-given (Err unmade.Full) = tt
 
-  stored_by_kept : (y : Planned) → Kept bs (stored_by ws k bs ts n s y)
+  stored_by_kept : (y : Result Plan Unmade) → Kept bs (stored_by ws k bs ts p y)
   unfolding leaves_all
-  stored_by_kept (planned.Go p) h = let f : false ≡ true = ap leaves_all (sym (number_of-accepted_of k n s)) ∙ h in (cc, cc)
-  stored_by_kept planned.Damaged h = (refl, refl)
-  stored_by_kept planned.Full h = (cc, cc)
+  stored_by_kept (Ok q) h = (cc, cc)
+  stored_by_kept (Err unmade.Damaged) h = (refl, refl)
+  stored_by_kept (Err unmade.Full) h = (cc, cc)
 
-module _ (ws : List ℕ) (k : Prefix) (z : ℕ) (bs ts : List ℕ) where
-  stored_of-number : (x : Surveyed) (n : ℕ) → refusal_of x ≡ suc n → number_of (stored_of ws k z bs ts x).answer ≡ suc n
-  stored_of-number (surveyed.Path n s e) m h = cc
-  stored_of-number surveyed.BadLength m h = h
-  stored_of-number surveyed.BadPrefix m h = h
-  stored_of-number surveyed.ShortOut m h = h
-  stored_of-number surveyed.Damaged m h = h
-
-  stored_of_kept : (x : Surveyed) → Kept bs (stored_of ws k z bs ts x)
-  stored_of_kept (surveyed.Path n s e) h = stored_by_kept ws k bs ts n s (plan_store_on ws k z s e) h
-  stored_of_kept surveyed.BadLength h = (refl, refl)
-  stored_of_kept surveyed.BadPrefix h = (refl, refl)
-  stored_of_kept surveyed.ShortOut h = (refl, refl)
-  stored_of_kept surveyed.Damaged h = (refl, refl)
+stored_of_kept : (ws : List ℕ) (k : Prefix) (z : ℕ) (bs ts : List ℕ) (x : Result Path Refusal) → Kept bs (stored_of ws k z bs ts x)
+stored_of_kept ws k z bs ts (Ok p) h = stored_by_kept ws k bs ts p (plan_store_on ws k z p.walk p.met) h
+stored_of_kept ws k z bs ts (Err e) h = (rw (nodes_kept e h), refl)
 
 module _ (ws : List ℕ) (k : Prefix) (z : ℕ) (bs : List ℕ) where
   store_on_exact : Exact (first_refusal ws k (length bs)) (store_on ws k z bs)
   unfolding store_on
   store_on_exact =
       let ts = (survey_on ws k (length bs) (replicate 129 0)).widths in
-      survey_on-given ws k (length bs) (replicate 129 0) (λ x. number_of (stored_of ws k z bs ts x).answer) _ (stored_of-number ws k z bs ts)
-      (λ n s e. stored_by-given ws k bs ts n s (plan_store_on ws k z s e)) tt
+      survey_on-given ws k (length bs) (replicate 129 0) (λ x. number_of (stored_of ws k z bs ts x).answer) _ (λ e. refl)
+      (λ p. stored_by-given ws k bs ts p (plan_store_on ws k z p.walk p.met)) tt
 
   store_on_kept : Kept bs (store_on ws k z bs)
   unfolding store_on

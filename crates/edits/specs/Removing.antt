@@ -1,45 +1,47 @@
 -- Remove: what it answers and writes on any words, and its promise.
 -- Paper 01, "The lent table": "Fetch gives the stored number, remove the one it took out."
+--   Removal               the type of an answer
 --   remove_on ws k bs     the answer, the trail and the words, on any words
---   number_of, values_of  the paper's number of an answer, 0 where accepted, and its values
+--   values_of             the values of an answer
 --   Remove                the contract of `remove`
 -- Assumes nothing.
-use Rattle.std.specs.Prelude.{ℕ, suc, ◌+◌, ◌≤◌, ◌≡◌, true, cond, List, [], ◌∷◌, ◌++◌, eqb, length, drop, replicate}
-use Rattle.std.proofs.Math.Option.{Option, none, some}
+use Rattle.std.specs.Prelude.{ℕ, suc, ◌≤◌, ◌≡◌, true, List, [], ◌∷◌, ◌++◌, Option, Some, None, Result, Ok, Err, length, drop, replicate}
+use Rattle.std.proofs.Math.Option as math
 use Rattle.std.proofs.Math.Seq.{paste}
-use Rattle.refusals.specs.Refusals.{GivenExactly}
+use Rattle.refusals.specs.Refusals.{number_of, nodes_in, GivenExactly}
+use Rattle.refusals.specs.declared.Refusal.{Refusal}
+use Rattle.refusals.specs.declared.Refusal.TheVariants.{Damaged, Absent}
 use Rattle.prefix.specs.Keys.{string_of, Valid}
 use Rattle.prefix.specs.declared.Prefix.{Prefix}
 use Rattle.zones.specs.Maps.{Map, keys, get, without}
 use Rattle.zones.specs.Nodes.{path, trail}
 use Rattle.records.specs.Holds.{Holds}
-use Rattle.lookup.specs.Walking.{Survey, survey_on, first_refusal, leaves_all}
-use Rattle.lookup.specs.declared.Walk.{Walk}
-use Rattle.lookup.specs.declared.Surveyed.{Surveyed}
-use Rattle.lookup.specs.declared.Surveyed.TheVariants as surveyed
+use Rattle.lookup.specs.Walking.{Survey, survey_on, first_refusal, leaves_all, stored_in}
+use Rattle.lookup.specs.declared.Keyed.{Keyed}
+use Rattle.lookup.specs.declared.Path.{Path}
 use Rattle.plans.specs.Planning.{applied, plan_remove_on}
 use Rattle.plans.specs.Limits.{ThreeRecords}
-use Rattle.plans.specs.Planned.{Planned}
-use Rattle.plans.specs.Planned as planned
+use Rattle.plans.specs.Plans.{Plan}
+use Rattle.plans.specs.declared.Unmade.{Unmade}
 use Rattle.edits.specs.Storing.{Edit, refused}
-use Rattle.edits.specs.declared.Removal.{Removal}
-use Rattle.edits.specs.declared.Removal.TheVariants.{Removed, BadLength, BadPrefix, ShortOut, Damaged, Absent}
+
+-- the number of nodes, and the number taken out; or the refusal
+abbrev pub Removal : Type 0
+Removal = Result (Keyed ℕ) Refusal
 
 -- (a plan of a remove is never Full)
-abbrev pub removed_by : List ℕ → List ℕ → List ℕ → ℕ → Walk → Planned → Edit Removal
-removed_by ws bs ts n s (planned.Go p) = record { answer = Removed n s.zone; bytes = paste bs 0 ts n; words = applied ws p }
-removed_by ws bs ts n s planned.Damaged = refused Damaged bs ws
-removed_by ws bs ts n s planned.Full = refused Damaged bs ws
+abbrev pub removed_by : List ℕ → List ℕ → List ℕ → ℕ → ℕ → Result Plan Unmade → Edit Removal
+removed_by ws bs ts n z (Ok p) = record { answer = Ok (record { nodes = n; value = z }); bytes = paste bs 0 ts n; words = applied ws p }
+removed_by ws bs ts n z (Err d) = refused (Err Damaged) bs ws
 
-abbrev pub removed_of : List ℕ → Prefix → List ℕ → List ℕ → Surveyed → Edit Removal
-removed_of ws k bs ts (surveyed.Path n s e) =
-    cond (eqb s.best (k.width + 1))
-    (removed_by ws bs ts n s (plan_remove_on ws k s))
-    (record { answer = Absent n; bytes = paste bs 0 ts n; words = ws })
-removed_of ws k bs ts surveyed.BadLength = refused BadLength bs ws
-removed_of ws k bs ts surveyed.BadPrefix = refused BadPrefix bs ws
-removed_of ws k bs ts surveyed.ShortOut = refused ShortOut bs ws
-removed_of ws k bs ts surveyed.Damaged = refused Damaged bs ws
+-- by the number that is stored for the key itself
+abbrev pub removed_at : List ℕ → List ℕ → List ℕ → ℕ → Option ℕ → Result Plan Unmade → Edit Removal
+removed_at ws bs ts n (Some z) x = removed_by ws bs ts n z x
+removed_at ws bs ts n None x = record { answer = Err (Absent n); bytes = paste bs 0 ts n; words = ws }
+
+abbrev pub removed_of : List ℕ → Prefix → List ℕ → List ℕ → Result Path Refusal → Edit Removal
+removed_of ws k bs ts (Ok p) = removed_at ws bs ts p.nodes (stored_in k.width p.walk.longest) (plan_remove_on ws k p.walk)
+removed_of ws k bs ts (Err e) = refused (Err e) bs ws
 
 abbrev pub removed_from : List ℕ → Prefix → List ℕ → Survey → Edit Removal
 removed_from ws k bs v = removed_of ws k bs v.widths v.out
@@ -47,28 +49,15 @@ removed_from ws k bs v = removed_of ws k bs v.widths v.out
 unfoldable pub remove_on : List ℕ → Prefix → List ℕ → Edit Removal
 remove_on ws k bs = removed_from ws k bs (survey_on ws k (length bs) (replicate 129 0))
 
--- Nos. 1, 2, 5, 6 and 7
-abbrev pub number_of : Removal → ℕ
-number_of (Removed n z) = 0
-number_of BadLength = 1
-number_of BadPrefix = 2
-number_of ShortOut = 5
-number_of Damaged = 6
-number_of (Absent n) = 7
-
 -- the number of nodes, and the number taken out
 abbrev pub values_of : Removal → List ℕ
-values_of (Removed n z) = n ∷ z ∷ []
-values_of BadLength = 0 ∷ 0 ∷ []
-values_of BadPrefix = 0 ∷ 0 ∷ []
-values_of ShortOut = 0 ∷ 0 ∷ []
-values_of Damaged = 0 ∷ 0 ∷ []
-values_of (Absent n) = n ∷ 0 ∷ []
+values_of (Ok x) = x.nodes ∷ x.value ∷ []
+values_of (Err e) = nodes_in e ∷ 0 ∷ []
 
 -- "the one it took out"; No. 7, Absent: "remove or fetch of a prefix not stored"
-abbrev pub gives : ℕ → Option ℕ → Removal
-gives n (some z) = Removed n z
-gives n none = Absent n
+abbrev pub gives : ℕ → math.Option ℕ → Removal
+gives n (math.some z) = Ok (record { nodes = n; value = z })
+gives n math.none = Err (Absent n)
 
 -- ---- what `remove` promises: words ws, trail bytes bs, before; words us, bytes as, after
 

@@ -2,31 +2,33 @@
 -- Paper 01, "The lent table": "Store adds a prefix or replaces its zone number; it says which, and gives the
 -- old number if there was one."
 --   Edit A                what an edit gives and leaves: its answer, the trail's bytes, the table's words
---   accepted_of k n s     the answer of an accepted store
+--   Stored                the type of an answer
+--   accepted_of k p       the answer of an accepted store, where the key's path is p
 --   store_on ws k z bs    the answer, the trail and the words, on any words
---   number_of, values_of  the paper's number of an answer, 0 where accepted, and its values
+--   values_of             the values of an answer
 --   Store                 the contract of `store`
 -- Assumes nothing.
-use Rattle.std.specs.Prelude.{ℕ, suc, ◌+◌, ◌≤◌, ◌≡◌, Bool, true, cond, List, [], ◌∷◌, ◌++◌, eqb, length, drop, replicate}
-use Rattle.std.proofs.Math.Option.{Option, none, some}
+use Rattle.std.specs.Prelude.{ℕ, suc, ◌≤◌, ◌≡◌, Bool, true, cond, List, [], ◌∷◌, ◌++◌, Option, Some, None, Result, Ok, Err, length, drop, replicate}
+use Rattle.std.proofs.Math.Option as math
 use Rattle.std.proofs.Math.Seq.{paste}
-use Rattle.refusals.specs.Refusals.{GivenExactly}
+use Rattle.refusals.specs.Refusals.{number_of, nodes_in, GivenExactly}
+use Rattle.refusals.specs.declared.Refusal.{Refusal}
+use Rattle.refusals.specs.declared.Refusal.TheVariants.{Damaged, Full}
 use Rattle.prefix.specs.Keys.{string_of, Valid}
 use Rattle.prefix.specs.declared.Prefix.{Prefix}
 use Rattle.zones.specs.Maps.{Map, keys, get, put}
 use Rattle.zones.specs.Nodes.{path, trail, overflows}
 use Rattle.records.specs.Layout.{capacity}
 use Rattle.records.specs.Holds.{Holds}
-use Rattle.lookup.specs.Walking.{Survey, survey_on, first_refusal, leaves_all}
-use Rattle.lookup.specs.declared.Walk.{Walk}
-use Rattle.lookup.specs.declared.Surveyed.{Surveyed}
-use Rattle.lookup.specs.declared.Surveyed.TheVariants as surveyed
+use Rattle.lookup.specs.Walking.{Survey, survey_on, first_refusal, leaves_all, stored_in}
+use Rattle.lookup.specs.Fetching.{given}
+use Rattle.lookup.specs.declared.Keyed.{Keyed}
+use Rattle.lookup.specs.declared.Path.{Path}
 use Rattle.plans.specs.Planning.{entry_of, applied, plan_store_on}
 use Rattle.plans.specs.Limits.{ThreeRecords}
-use Rattle.plans.specs.Planned.{Planned}
-use Rattle.plans.specs.Planned as planned
-use Rattle.edits.specs.declared.Stored.{Stored}
-use Rattle.edits.specs.declared.Stored.TheVariants.{Added, Replaced, BadLength, BadPrefix, ShortOut, Damaged, Full}
+use Rattle.plans.specs.Plans.{Plan}
+use Rattle.plans.specs.declared.Unmade.{Unmade}
+use Rattle.plans.specs.declared.Unmade.TheVariants as unmade
 
 pub record Edit (A : Type 0) : Type 0 where
   pub answer : A
@@ -37,20 +39,21 @@ pub record Edit (A : Type 0) : Type 0 where
 abbrev pub refused : {A : Type 0} → A → List ℕ → List ℕ → Edit A
 refused r bs ws = record { answer = r; bytes = bs; words = ws }
 
-unfoldable pub accepted_of : Prefix → ℕ → Walk → Stored
-accepted_of k n s = cond (eqb s.best (k.width + 1)) (Replaced n s.zone) (Added n)
+-- the number of nodes, and the old number if there was one; or the refusal
+abbrev pub Stored : Type 0
+Stored = Result (Keyed (Option ℕ)) Refusal
 
-abbrev pub stored_by : List ℕ → Prefix → List ℕ → List ℕ → ℕ → Walk → Planned → Edit Stored
-stored_by ws k bs ts n s (planned.Go p) = record { answer = accepted_of k n s; bytes = paste bs 0 ts n; words = applied ws p }
-stored_by ws k bs ts n s planned.Damaged = refused Damaged bs ws
-stored_by ws k bs ts n s planned.Full = record { answer = Full n; bytes = paste bs 0 ts n; words = ws }
+abbrev pub accepted_of : Prefix → Path → Stored
+accepted_of k p = Ok (record { nodes = p.nodes; value = stored_in k.width p.walk.longest })
 
-abbrev pub stored_of : List ℕ → Prefix → ℕ → List ℕ → List ℕ → Surveyed → Edit Stored
-stored_of ws k z bs ts (surveyed.Path n s e) = stored_by ws k bs ts n s (plan_store_on ws k z s e)
-stored_of ws k z bs ts surveyed.BadLength = refused BadLength bs ws
-stored_of ws k z bs ts surveyed.BadPrefix = refused BadPrefix bs ws
-stored_of ws k z bs ts surveyed.ShortOut = refused ShortOut bs ws
-stored_of ws k z bs ts surveyed.Damaged = refused Damaged bs ws
+abbrev pub stored_by : List ℕ → Prefix → List ℕ → List ℕ → Path → Result Plan Unmade → Edit Stored
+stored_by ws k bs ts p (Ok q) = record { answer = accepted_of k p; bytes = paste bs 0 ts p.nodes; words = applied ws q }
+stored_by ws k bs ts p (Err unmade.Damaged) = refused (Err Damaged) bs ws
+stored_by ws k bs ts p (Err unmade.Full) = record { answer = Err (Full p.nodes); bytes = paste bs 0 ts p.nodes; words = ws }
+
+abbrev pub stored_of : List ℕ → Prefix → ℕ → List ℕ → List ℕ → Result Path Refusal → Edit Stored
+stored_of ws k z bs ts (Ok p) = stored_by ws k bs ts p (plan_store_on ws k z p.walk p.met)
+stored_of ws k z bs ts (Err e) = refused (Err e) bs ws
 
 abbrev pub stored_from : List ℕ → Prefix → ℕ → List ℕ → Survey → Edit Stored
 stored_from ws k z bs v = stored_of ws k z bs v.widths v.out
@@ -58,34 +61,23 @@ stored_from ws k z bs v = stored_of ws k z bs v.widths v.out
 unfoldable pub store_on : List ℕ → Prefix → ℕ → List ℕ → Edit Stored
 store_on ws k z bs = stored_from ws k z bs (survey_on ws k (length bs) (replicate 129 0))
 
--- Nos. 1, 2, 5, 6 and 8
-abbrev pub number_of : Stored → ℕ
-number_of (Added n) = 0
-number_of (Replaced n z) = 0
-number_of BadLength = 1
-number_of BadPrefix = 2
-number_of ShortOut = 5
-number_of Damaged = 6
-number_of (Full n) = 8
+-- 1 where a number was replaced and 0 where not, and the old number
+abbrev pub old_values : Option ℕ → List ℕ
+old_values None = 0 ∷ 0 ∷ []
+old_values (Some z) = 1 ∷ z ∷ []
 
--- the number of nodes, 1 where a number was replaced and 0 where not, and the old number
+-- the number of nodes before them
 abbrev pub values_of : Stored → List ℕ
-values_of (Added n) = n ∷ 0 ∷ 0 ∷ []
-values_of (Replaced n z) = n ∷ 1 ∷ z ∷ []
-values_of BadLength = 0 ∷ 0 ∷ 0 ∷ []
-values_of BadPrefix = 0 ∷ 0 ∷ 0 ∷ []
-values_of ShortOut = 0 ∷ 0 ∷ 0 ∷ []
-values_of Damaged = 0 ∷ 0 ∷ 0 ∷ []
-values_of (Full n) = n ∷ 0 ∷ 0 ∷ []
+values_of (Ok x) = x.nodes ∷ old_values x.value
+values_of (Err e) = nodes_in e ∷ 0 ∷ 0 ∷ []
 
 -- "it says which, and gives the old number if there was one"
-abbrev pub says : ℕ → Option ℕ → Stored
-says n (some z) = Replaced n z
-says n none = Added n
+abbrev pub says : ℕ → math.Option ℕ → Stored
+says n old = Ok (record { nodes = n; value = given old })
 
 -- "Full is given exactly when the tree of the new set has more than c nodes"
-abbrev pub gives : Bool → ℕ → Option ℕ → Stored
-gives full n old = cond full (Full n) (says n old)
+abbrev pub gives : Bool → ℕ → math.Option ℕ → Stored
+gives full n old = cond full (Err (Full n)) (says n old)
 
 -- ---- what `store` promises: words ws, trail bytes bs, before; words us, bytes as, after
 

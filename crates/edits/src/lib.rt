@@ -6,46 +6,41 @@
 ghost use Rattle.std.specs.Prelude.{◌+◌, ◌*◌, ◌≤◌, ◌≡◌, length};
 ghost use Rattle.plans.specs.Planning.{freed_of};
 ghost use Rattle.edits.specs.Fresh.{next_of, chained_on, Fresh};
-ghost use Rattle.edits.specs.Storing.{accepted_of, Store};
+ghost use Rattle.edits.specs.Storing.{Store};
 ghost use Rattle.edits.specs.Removing.{Remove};
 
-use lookup::{Surveyed, Walk};
-use plans::Made;
+use lookup::{Keyed, TRAIL};
+use plans::Unmade;
 use prefix::Prefix;
 use records::{Header, Record};
+use refusals::Refusal;
 
 // ---- fresh
 
-#[derive(Clone, Copy)]
-pub enum Freshened {
-    Done,
-    BadLength,
-}
-
 // Makes the lent memory an empty table: no node, and every record spare. The header's other words are a
 // spare record's, whose tag ends a descent where a link is 0.
-pub fn fresh(table: &mut [u32]) -> Freshened
+#[tactic(auto, using(records::proofs::LayoutLaws::is_table_true))]
+pub fn fresh(table: &mut [u32]) -> Result<(), Refusal>
     ensures { Fresh table.old result table.new }
 {
     if !records::is_table(table.len()) {
-        return Freshened::BadLength;
+        return Err(Refusal::BadLength);
     }
     let count = table.len() / records::RECORD - 1;
     records::write_record(table, 0, plans::freed(0));
     chain(table, count as u32);
     records::write_header(table, Header { root: 0, spare: 1 });
-    Freshened::Done
+    Ok(())
 }
 
 // Makes each record from 1 to c spare, each with the next one's link, and the last with none.
+#[tactic(auto, unfolding(crate::specs::Fresh::chained_on))]
 fn chain(table: &mut [u32], c: u32)
     requires { 8 * c + 8 ≤ length table.old }
     ensures { table.new ≡ chained_on table.old c c }
 {
-    let mut l: u32 = 0;
-    while l < c {
-        l += 1;
-        records::write_record(table, l, spare(l, c));
+    for l in 0..c {
+        records::write_record(table, l + 1, spare(l + 1, c));
     }
 }
 
@@ -53,107 +48,56 @@ fn chain(table: &mut [u32], c: u32)
 fn spare(l: u32, c: u32) -> Record
     ensures { result ≡ freed_of (next_of l c) }
 {
-    if l < c {
-        return plans::freed(l + 1);
-    }
-    plans::freed(0)
+    plans::freed(if l < c { l + 1 } else { 0 })
 }
 
 // ---- store
 
-// What `store` answers. The first number of Added, Replaced and Full is how many nodes the path
-// has; Replaced has the old zone number.
-#[derive(Clone, Copy)]
-pub enum Stored {
-    Added(usize),
-    Replaced(usize, u32),
-    BadLength,
-    BadPrefix,
-    ShortOut,
-    Damaged,
-    Full(usize),
-}
-
-// Stores the zone number for k, in place of the old one if there is one. Added, Replaced and Full
-// write the trail, from the set as it stood before; every other answer leaves it. A refusal, Full
-// too, leaves the table.
-pub fn store(table: &mut [u32], k: Prefix, zone: u32, trail: &mut [u8]) -> Stored
+// Stores the zone number for k, in place of the old one if there is one, which it gives. Where it is stored, and
+// where the table is Full, the widths of the path's nodes stand in the trail, from the set as it stood before;
+// every other refusal leaves the trail. A refusal, Full too, leaves the table.
+pub fn store(
+    table: &mut [u32],
+    k: Prefix,
+    zone: u32,
+    trail: &mut [u8],
+) -> Result<Keyed<Option<u32>>, Refusal>
     ensures { Store table.old k zone trail.old result table.new trail.new }
 {
-    let mut widths = [0u8; 129];
-    let x = lookup::survey(table, k, trail.len(), &mut widths);
-    match x {
-        Surveyed::BadLength => Stored::BadLength,
-        Surveyed::BadPrefix => Stored::BadPrefix,
-        Surveyed::ShortOut => Stored::ShortOut,
-        Surveyed::Damaged => Stored::Damaged,
-        Surveyed::Path(n, s, e) => {
-            let y = plans::make_store(table, k, zone, s, e);
-            match y {
-                Made::Damaged => Stored::Damaged,
-                Made::Full => {
-                    lookup::copy_first(&widths, n, trail);
-                    Stored::Full(n)
-                }
-                Made::Done => {
-                    lookup::copy_first(&widths, n, trail);
-                    accepted(k, n, s)
-                }
-            }
-        }
-    }
-}
-
-fn accepted(k: Prefix, n: usize, s: Walk) -> Stored
-    requires { k.width ≤ 128 }
-    ensures { result ≡ accepted_of k n s }
-{
-    if s.best == k.width + 1 {
-        return Stored::Replaced(n, s.zone);
-    }
-    Stored::Added(n)
+    let mut widths = [0u8; TRAIL];
+    let p = lookup::survey(table, k, trail.len(), &mut widths)?;
+    let answer = match plans::make_store(table, k, zone, p.walk, p.met) {
+        Ok(()) => Ok(Keyed {
+            nodes: p.nodes,
+            value: lookup::stored_at(p.walk.longest, k.width),
+        }),
+        Err(Unmade::Full) => Err(Refusal::Full(p.nodes)),
+        Err(Unmade::Damaged) => return Err(Refusal::Damaged),
+    };
+    lookup::copy_first(&widths, p.nodes, trail);
+    answer
 }
 
 // ---- remove
 
-// What `remove` answers. The first number of Removed and Absent is how many nodes the path has;
-// Removed has the zone number taken out.
-#[derive(Clone, Copy)]
-pub enum Removal {
-    Removed(usize, u32),
-    BadLength,
-    BadPrefix,
-    ShortOut,
-    Damaged,
-    Absent(usize),
-}
-
-// Takes k out. Removed and Absent write the trail, from the set as it stood before; every other
-// answer leaves it. A refusal leaves the table.
-pub fn remove(table: &mut [u32], k: Prefix, trail: &mut [u8]) -> Removal
+// Takes k out, and gives its zone number. Where it is taken out, and where it is Absent, the widths of the path's
+// nodes stand in the trail, from the set as it stood before; every other refusal leaves the trail. A refusal
+// leaves the table.
+pub fn remove(table: &mut [u32], k: Prefix, trail: &mut [u8]) -> Result<Keyed<u32>, Refusal>
     ensures { Remove table.old k trail.old result table.new trail.new }
 {
-    let mut widths = [0u8; 129];
-    let x = lookup::survey(table, k, trail.len(), &mut widths);
-    match x {
-        Surveyed::BadLength => Removal::BadLength,
-        Surveyed::BadPrefix => Removal::BadPrefix,
-        Surveyed::ShortOut => Removal::ShortOut,
-        Surveyed::Damaged => Removal::Damaged,
-        Surveyed::Path(n, s, _) => {
-            if s.best != k.width + 1 {
-                lookup::copy_first(&widths, n, trail);
-                return Removal::Absent(n);
-            }
-            let y = plans::make_remove(table, k, s);
-            match y {
-                Made::Damaged => Removal::Damaged,
-                Made::Full => Removal::Damaged,
-                Made::Done => {
-                    lookup::copy_first(&widths, n, trail);
-                    Removal::Removed(n, s.zone)
-                }
-            }
+    let mut widths = [0u8; TRAIL];
+    let p = lookup::survey(table, k, trail.len(), &mut widths)?;
+    let answer = match lookup::stored_at(p.walk.longest, k.width) {
+        Some(zone) => {
+            plans::make_remove(table, k, p.walk).or(Err(Refusal::Damaged))?;
+            Ok(Keyed {
+                nodes: p.nodes,
+                value: zone,
+            })
         }
-    }
+        None => Err(Refusal::Absent(p.nodes)),
+    };
+    lookup::copy_first(&widths, p.nodes, trail);
+    answer
 }

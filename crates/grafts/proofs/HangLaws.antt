@@ -8,6 +8,7 @@ use mathlib.Core.Bool.{true}
 use mathlib.Core.List.{List, ◌++◌, Memᴰ}
 use lib.ListN.{length}
 use borrow.Author.Tests.{eq-eqb, ne_eqb, lt-leb}
+use Rattle.std.specs.Prelude.{Some, None, Ok}
 use Rattle.prefix.specs.declared.Prefix.{Prefix}
 use Rattle.zones.specs.Focus.{Context, top, into, link_at}
 use Rattle.records.specs.Layout.{room_of, record_at, header_at, with_side}
@@ -15,10 +16,8 @@ use Rattle.records.specs.Holds.{labels, times}
 use Rattle.records.proofs.LayoutLaws.{room_of_true}
 use Rattle.records.proofs.GraftLaws.{labels_above, Framed, framed-set}
 use Rattle.lookup.proofs.FramesLaws.{Frames}
-use Rattle.plans.specs.Planning.{nowhere_of, look_on, hang_on}
+use Rattle.plans.specs.Planning.{nowhere_of, look_on, node_on, hang_on}
 use Rattle.plans.specs.Plans.{Write}
-use Rattle.plans.specs.declared.Look.TheVariants as look
-use Rattle.plans.specs.Hung as hung
 
 -- the header's root, and the write, once l is hung in the open place of c
 abbrev pub root_with : Context ℕ → ℕ → ℕ → ℕ
@@ -34,20 +33,24 @@ abbrev pub Hanged : List ℕ → List ℕ → Context ℕ → ℕ → Type 0
 Hanged ws us top l = Unit {0}
 Hanged ws us (into a p v x o c) l = record_at us a ≡ with_side (record_at ws a) x l
 
--- ---- look_on
+-- ---- look_on, node_on
 
-pub look_on_nothing : (ws : List ℕ) → look_on ws 0 ≡ look.Nothing
+pub look_on_nothing : (ws : List ℕ) → look_on ws 0 ≡ Ok None
 unfolding look_on
 look_on_nothing ws = refl
 
-pub look_on-room : (ws : List ℕ) (l : ℕ) → room_of (length ws) l ≡ true → look_on ws l ≡ look.At (record_at ws l)
+pub node_on-room : (ws : List ℕ) (l : ℕ) → room_of (length ws) l ≡ true → node_on ws l ≡ Ok (record_at ws l)
+unfolding node_on
+node_on-room ws l h = rw h
+
+pub look_on-room : (ws : List ℕ) (l : ℕ) → room_of (length ws) l ≡ true → look_on ws l ≡ Ok (Some (record_at ws l))
 unfolding look_on
-look_on-room ws l h = let i = room_of_true (length ws) l h in rw (ne_eqb l 0 (omega arith), h)
+look_on-room ws l h = let i = room_of_true (length ws) l h in rw (ne_eqb l 0 (omega arith), node_on-room ws l h)
 
 -- ---- hang_on
 
 pub hang_on-frames : (ws : List ℕ) (k : Prefix) (c : Context ℕ) (root l : ℕ) → Frames ws k c
-    → hang_on ws root k (link_at 0 c) l ≡ hung.On (root_with c root l) (hang_write ws c l)
+    → hang_on ws root k (link_at 0 c) l ≡ Ok (record { root = root_with c root l; one = hang_write ws c l })
 unfolding hang_on
 hang_on-frames ws k top root l f = rw (look_on_nothing ws)
 hang_on-frames ws k (into a p v x o c) root l f =

@@ -13,12 +13,14 @@ use mathlib.Core.List.Memᴰ
 use mathlib.Core.List.{List, [], ◌∷◌, Memᴰ}
 use lib.ListN.{length, get_or}
 use borrow.Author.Tests.{eq-eqb, ne_eqb, lt-ltb, le-ltb, lt-leb}
+use Rattle.std.specs.Prelude.{Result, Ok, Err}
 use Rattle.prefix.specs.Keys.{string_of, cut_of}
 use Rattle.prefix.specs.declared.Prefix.{Prefix}
 use Rattle.zones.specs.Maps.{Map}
 use Rattle.zones.specs.Focus.{Context, top, into, link_at}
 use Rattle.records.specs.Layout.{room_of, record_at, header_at, key_of, with_side, is_spare}
 use Rattle.records.specs.Holds.{Chained, Holds}
+use Rattle.records.proofs.LayoutLaws.{room_of_true}
 use Rattle.records.proofs.HoldsLaws.{chain-room}
 use Rattle.lookup.specs.declared.Walk.{Walk}
 use Rattle.lookup.specs.declared.Met.{Met}
@@ -27,23 +29,26 @@ use Rattle.lookup.proofs.FramesLaws.{Frames}
 use Rattle.lookup.proofs.EndsLaws.{low_of, StoodAt}
 use Rattle.plans.specs.Planning.{nowhere_of, node_of, spare_on, here_on, above_on, fork_on, new_on, store_of, plan_of, hang_on, plan_store_on}
 use Rattle.plans.specs.Plans.{Write, Plan}
-use Rattle.plans.specs.Planned.{Go, Full}
 use Rattle.plans.specs.declared.Spare.{Spare}
-use Rattle.plans.specs.declared.Spare.TheVariants as spare
-use Rattle.grafts.proofs.HangLaws.{root_with, hang_write, look_on_nothing, look_on-room, hang_on-frames}
+use Rattle.plans.specs.declared.Unmade.{Unmade}
+use Rattle.plans.specs.declared.Unmade.TheVariants.{Full}
+use Rattle.grafts.proofs.HangLaws.{root_with, hang_write, node_on-room, hang_on-frames}
 
 -- ---- spare_on
 
 -- what the first of the spare records is
-abbrev pub spare_in : List ℕ → List ℕ → Spare
-spare_in ws [] = spare.Out
-spare_in ws (a ∷ ls) = spare.Free a (record_at ws a).left
+abbrev pub spare_in : List ℕ → List ℕ → Result Spare Unmade
+spare_in ws [] = Err Full
+spare_in ws (a ∷ ls) = Ok (record { link = a; next = (record_at ws a).left })
 
 pub spare_on-chained : (ws : List ℕ) (l : ℕ) (ls : List ℕ) → ((a : ℕ) → Memᴰ a ls → room_of (length ws) a ≡ true)
     → Chained (record_at ws) l ls → spare_on ws l ≡ spare_in ws ls
 unfolding spare_on is_spare
-spare_on-chained ws l [] room e = rw (e, look_on_nothing ws)
-spare_on-chained ws l (a ∷ ls) room e = rw (e.0, look_on-room ws a (room a (Memᴰ.head refl)), e.1)
+spare_on-chained ws l [] room e = rw e
+spare_on-chained ws l (a ∷ ls) room e =
+    let h = room a (Memᴰ.head refl) in
+    let f = room_of_true (length ws) a h in
+    rw (e.0, ne_eqb a 0 (omega arith), node_on-room ws a h, e.1)
 
 -- ---- plan_store_on
 
@@ -58,9 +63,9 @@ here_plan ws k z a =
     }
 
 pub plan_store_on-here : (ws : List ℕ) (k : Prefix) (z : ℕ) (s : Walk) (e : Met) (a : ℕ) → s.low ≡ k.width + 1 → s.at ≡ a
-    → room_of (length ws) a ≡ true → plan_store_on ws k z s e ≡ Go (here_plan ws k z a)
+    → room_of (length ws) a ≡ true → plan_store_on ws k z s e ≡ Ok (here_plan ws k z a)
 unfolding plan_store_on here_on
-plan_store_on-here ws k z s e a low at room = rw (eq-eqb s.low (k.width + 1) low, at, look_on-room ws a room)
+plan_store_on-here ws k z s e a low at room = rw (eq-eqb s.low (k.width + 1) low, at, node_on-room ws a room)
 
 low-frames : (ws : List ℕ) (k : Prefix) (c : Context ℕ) → Frames ws k c → low_of c ≤ k.width
 low-frames ws k top f = omega arith
@@ -99,33 +104,33 @@ module _ (ws : List ℕ) (k : Prefix) (z : ℕ) (c : Context ℕ) (frames : Fram
       rw (ne_eqb s.low (k.width + 1) n, st.at, spare_on-chained ws (header_at ws).spare h.chain (chain-room h) h.chained)
 
   plan_of-frames : (l next : ℕ) (two three : Write)
-      → plan_of (hang_on ws (header_at ws).root k (link_at 0 c) l) next two three ≡ Go (hang_plan ws c l next two three)
+      → plan_of (hang_on ws (header_at ws).root k (link_at 0 c) l) next two three ≡ Ok (hang_plan ws c l next two three)
   plan_of-frames l next two three = rw (hang_on-frames ws k c (header_at ws).root l frames)
 
   pub new_on-tip : (q a next : ℕ)
-      → new_on ws (header_at ws) k z (link_at 0 c) (Matching q) a next ≡ Go (hang_plan ws c a next (leaf_write k z a) nowhere_of)
+      → new_on ws (header_at ws) k z (link_at 0 c) (Matching q) a next ≡ Ok (hang_plan ws c a next (leaf_write k z a) nowhere_of)
   new_on-tip q a next = plan_of-frames a next (leaf_write k z a) nowhere_of
 
   -- a node d that the key lies above, by the side x
   pub new_on_above : (d n a next : ℕ) (x : Bool) → room_of (length ws) d ≡ true → k.width ≤ n → (record_at ws d).tag / 2 ≤ 128
       → k.width < (record_at ws d).tag / 2 → get_or (string_of (key_of (record_at ws d))) k.width false ≡ x
-      → new_on ws (header_at ws) k z (link_at 0 c) (Mismatching d n) a next ≡ Go (hang_plan ws c a next (above_write k z a x d) nowhere_of)
+      → new_on ws (header_at ws) k z (link_at 0 c) (Mismatching d n) a next ≡ Ok (hang_plan ws c a next (above_write k z a x d) nowhere_of)
   unfolding above_on
   new_on_above d n a next x room all narrow wide bit =
       let w = (record_at ws d).tag / 2 in
-      rw (le-ltb n k.width all, look_on-room ws d room, le-ltb 128 w narrow, lt-leb w k.width wide, bit)
+      rw (le-ltb n k.width all, node_on-room ws d room, le-ltb 128 w narrow, lt-leb w k.width wide, bit)
       (plan_of-frames a next (above_write k z a x d) nowhere_of)
 
   -- a node d that parts from the key after n bits
   module _ (d n a next : ℕ) (some : n < k.width) where
-    pub new_on_full : next ≡ 0 → new_on ws (header_at ws) k z (link_at 0 c) (Mismatching d n) a next ≡ Full
+    pub new_on_full : next ≡ 0 → new_on ws (header_at ws) k z (link_at 0 c) (Mismatching d n) a next ≡ Err Full
     unfolding fork_on
     new_on_full e = rw (lt-ltb n k.width some, spare_on-chained ws next [] (λ b i. absurd (Memᴰ.not-nil i)) e)
 
     pub new_on-fork : (x : Bool) (b : ℕ) (ls : List ℕ) → get_or (string_of k) n false ≡ x
         → ((j : ℕ) → Memᴰ j (b ∷ ls) → room_of (length ws) j ≡ true) → Chained (record_at ws) next (b ∷ ls)
         → new_on ws (header_at ws) k z (link_at 0 c) (Mismatching d n) a next
-        ≡ Go (hang_plan ws c b (record_at ws b).left (leaf_write k z a) (fork_write k n b x a d))
+        ≡ Ok (hang_plan ws c b (record_at ws b).left (leaf_write k z a) (fork_write k n b x a d))
     unfolding fork_on
     new_on-fork x b ls bit room chained =
         rw (lt-ltb n k.width some, spare_on-chained ws next (b ∷ ls) room chained, bit)

@@ -18,6 +18,7 @@ use lib.ListN.{length}
 use borrow.Author.Tests.{eq-eqb, ne_eqb, lt-leb}
 use Rattle.bits.specs.Bits.{Bits}
 use Rattle.bits.specs.Numbers.{odd}
+use Rattle.std.specs.Prelude.{Ok}
 use Rattle.prefix.specs.Keys.{string_of, Valid}
 use Rattle.prefix.specs.declared.Prefix.{Prefix}
 use Rattle.zones.specs.Tree.{Tree}
@@ -30,8 +31,7 @@ use Rattle.lookup.proofs.EndsLaws.{Stood}
 use Rattle.lookup.proofs.FramesLaws.{Frames}
 use Rattle.plans.specs.Planning.{node_of, freed_of, nowhere_of, pass_on, twin_on, alone_on, out_on, plan_remove_on}
 use Rattle.plans.specs.Plans.{Write, Plan}
-use Rattle.plans.specs.Planned as planned
-use Rattle.grafts.proofs.HangLaws.{root_with, hang_write, look_on_nothing, look_on-room, hang_on-frames}
+use Rattle.grafts.proofs.HangLaws.{root_with, hang_write, look_on_nothing, look_on-room, node_on-room, hang_on-frames}
 
 -- ---- records by value
 
@@ -84,7 +84,7 @@ twin_plan ws c a b l = cut_plan ws c l b (freeing a (header_at ws).spare) (freei
 -- ---- the key's node: by its sides
 
 pass_on-frames : (ws : List ℕ) (k : Prefix) (c : Context ℕ) (a l : ℕ) → Frames ws k c
-    → pass_on ws (header_at ws) k (link_at 0 c) a l ≡ planned.Go (pass_plan ws c a l)
+    → pass_on ws (header_at ws) k (link_at 0 c) a l ≡ Ok (pass_plan ws c a l)
 unfolding pass_on
 pass_on-frames ws k c a l f = rw (hang_on-frames ws k c (header_at ws).root l f)
 
@@ -92,15 +92,15 @@ module _ (ws : List ℕ) (k : Prefix) (c : Context ℕ) (a n : ℕ) (s : Walk) (
     (st : Stood a (link_at 0 c) (link_at 1 c) n s) where
   plan_remove_on_out : plan_remove_on ws k s ≡ out_on ws (header_at ws) k s (record_at ws a)
   unfolding plan_remove_on
-  plan_remove_on_out = rw (st.at, look_on-room ws a room)
+  plan_remove_on_out = rw (st.at, node_on-room ws a room)
 
-  pub plan_remove_on_both : 0 < (record_at ws a).left → 0 < (record_at ws a).right → plan_remove_on ws k s ≡ planned.Go (empty_plan ws k a)
+  pub plan_remove_on_both : 0 < (record_at ws a).left → 0 < (record_at ws a).right → plan_remove_on ws k s ≡ Ok (empty_plan ws k a)
   unfolding out_on
   plan_remove_on_both i j =
       plan_remove_on_out ∙ rw (ne_eqb (record_at ws a).left 0 (omega arith), ne_eqb (record_at ws a).right 0 (omega arith), st.at)
 
   pub plan_remove_on_low : 0 < (record_at ws a).left → (record_at ws a).right ≡ 0
-      → plan_remove_on ws k s ≡ planned.Go (pass_plan ws c a (record_at ws a).left)
+      → plan_remove_on ws k s ≡ Ok (pass_plan ws c a (record_at ws a).left)
   unfolding out_on
   plan_remove_on_low i j =
       plan_remove_on_out
@@ -108,7 +108,7 @@ module _ (ws : List ℕ) (k : Prefix) (c : Context ℕ) (a n : ℕ) (s : Walk) (
       (pass_on-frames ws k c a (record_at ws a).left frames)
 
   pub plan_remove_on_high : (record_at ws a).left ≡ 0 → 0 < (record_at ws a).right
-      → plan_remove_on ws k s ≡ planned.Go (pass_plan ws c a (record_at ws a).right)
+      → plan_remove_on ws k s ≡ Ok (pass_plan ws c a (record_at ws a).right)
   unfolding out_on
   plan_remove_on_high i j =
       plan_remove_on_out
@@ -146,7 +146,7 @@ odd-none r h = at (odd r.tag) h
 module _ (ws : List ℕ) (k : Prefix) (a n : ℕ) (s : Walk) (room : room_of (length ws) a ≡ true) (low : (record_at ws a).left ≡ 0)
     (high : (record_at ws a).right ≡ 0) where
   pub plan_remove_on-stays : (c : Context ℕ) → Frames ws k c → Stood a (link_at 0 c) (link_at 1 c) n s → Stays c
-      → plan_remove_on ws k s ≡ planned.Go (pass_plan ws c a 0)
+      → plan_remove_on ws k s ≡ Ok (pass_plan ws c a 0)
   unfolding alone_on
   plan_remove_on-stays top f st w =
       plan_remove_on_alone ws k top a n s room f st low high ∙ rw (st.up, st.at, look_on_nothing ws) (pass_on-frames ws k top a 0 f)
@@ -158,7 +158,7 @@ module _ (ws : List ℕ) (k : Prefix) (a n : ℕ) (s : Walk) (room : room_of (le
 
   pub plan_remove_on-twin : (b : ℕ) (p : Bits) (x : Bool) (o : Tree ℕ) (c : Context ℕ) → Frames ws k (into b p none x o c)
       → Stood a b (link_at 0 c) n s
-      → plan_remove_on ws k s ≡ planned.Go (twin_plan ws c a b (side_of (record_at ws b) (not x)))
+      → plan_remove_on ws k s ≡ Ok (twin_plan ws c a b (side_of (record_at ws b) (not x)))
   unfolding alone_on twin_on
   plan_remove_on-twin b p x o c f st =
       plan_remove_on_alone ws k (into b p none x o c) a n s room f st low high

@@ -11,6 +11,7 @@ use mathlib.Core.List.{List, [], ◌++◌}
 use mathlib.Core.Option.{none, some}
 use lib.Dec.{T}
 use lib.ListN.{length}
+use Rattle.std.specs.Prelude.{Ok}
 use Rattle.bits.specs.Bits.{Bits}
 use Rattle.prefix.specs.Keys.{string_of, Valid}
 use Rattle.prefix.specs.declared.Prefix.{Prefix}
@@ -30,14 +31,13 @@ use Rattle.lookup.proofs.EndsLaws.{Stood}
 use Rattle.lookup.proofs.FramesLaws.{Frames}
 use Rattle.plans.specs.Planning.{applied, plan_remove_on}
 use Rattle.plans.specs.Plans.{Plan}
-use Rattle.plans.specs.Planned as planned
 use Rattle.grafts.proofs.OpenedLaws.{times_in, opened-bounds}
 use Rattle.grafts.proofs.PlanRemoveLaws.{empty_plan, pass_plan, twin_plan, Stays, plan_remove_on_both, plan_remove_on_low, plan_remove_on_high, plan_remove_on-stays, plan_remove_on-twin}
 use Rattle.grafts.proofs.RemoveWordsLaws.{holds_empty, holds-pass, holds-twin}
 
 pub record Goes (ws : List ℕ) (k : Prefix) (m : Map) (s : Walk) : Type 0 where
   pub plan : Plan
-  pub planned_is : plan_remove_on ws k s ≡ planned.Go plan
+  pub planned_is : plan_remove_on ws k s ≡ Ok plan
   pub holds : Holds (applied ws plan) (without (string_of k) m)
 
 -- words that hold the tree after a remove hold the map after it
@@ -92,7 +92,7 @@ module _ {ws : List ℕ} {m : Map} (h : Holds ws m) (k : Prefix) (valid : Valid 
     positive_high f = positive-side r (record_at ws a).right f linked_high (λ d. omega (arith, times-append d (labels l) (labels r)))
 
     -- a tree t has its place, where t has all labels of the sides
-    goes-pass : (t : Tree ℕ) (b : ℕ) → plan_remove_on ws k s ≡ planned.Go (pass_plan ws c a b)
+    goes-pass : (t : Tree ℕ) (b : ℕ) → plan_remove_on ws k s ≡ Ok (pass_plan ws c a b)
         → remove_tree (string_of k) h.tree ≡ plug c t → Linked (record_at ws) b t
         → ((d : ℕ) → times d (labels l ++ labels r) ≡ times d (labels t)) → Goes ws k m s
     goes-pass t b q i j w =

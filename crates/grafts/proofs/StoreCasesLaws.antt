@@ -12,6 +12,7 @@ use mathlib.Core.List.{List, [], ◌∷◌, ◌++◌}
 use mathlib.Core.Option.{Option, none, some}
 use lib.ListN.{length, length-append}
 use borrow.Author.Tests.{eq-eqb}
+use Rattle.std.specs.Prelude.{Result, Ok, Err}
 use Rattle.bits.specs.Bits.{Bits, lcp}
 use Rattle.bits.specs.Meet.{meet}
 use Rattle.bits.specs.declared.Meeting.TheVariants.{Equal, Above, Apart}
@@ -37,8 +38,8 @@ use Rattle.lookup.proofs.StepsLaws.{get_or_next, width-bears, narrow-bears}
 use Rattle.lookup.proofs.EndsLaws.{Stood, StoodAt}
 use Rattle.plans.specs.Planning.{nowhere_of, node_of, applied, new_on, plan_store_on}
 use Rattle.plans.specs.Plans.{Plan}
-use Rattle.plans.specs.Planned.{Planned}
-use Rattle.plans.specs.Planned.{Go, Full}
+use Rattle.plans.specs.declared.Unmade.{Unmade}
+use Rattle.plans.specs.declared.Unmade.TheVariants.{Full}
 use Rattle.plans.specs.Planning.{entry_of}
 use Rattle.grafts.proofs.PlanHoldsLaws.{here_plan, plan_store_on-here, hang_plan, above_write, leaf_write, fork_write, plan_store_on_new, new_on-tip, new_on_above, new_on_full, new_on-fork}
 use Rattle.grafts.proofs.OpenedLaws.{chained_as, opened_at, opened-bounds}
@@ -47,9 +48,9 @@ use Rattle.grafts.proofs.HereLaws.{holds-here}
 use Rattle.grafts.proofs.NewNodesLaws.{holds_above, holds-fork}
 
 -- a plan that stores the entry, or the refusal of a table that is too small
-pub data Plans (ws : List ℕ) (k : Prefix) (z : ℕ) (m : Map) (r : Planned) : Type 0 where
-  goes : (p : Plan) → r ≡ Go p → Holds (applied ws p) (put (entry_of k z) m) → Plans ws k z m r
-  short : r ≡ Full → overflows (capacity (length ws)) (entry_of k z) m ≡ true → Plans ws k z m r
+pub data Plans (ws : List ℕ) (k : Prefix) (z : ℕ) (m : Map) (r : Result Plan Unmade) : Type 0 where
+  goes : (p : Plan) → r ≡ Ok p → Holds (applied ws p) (put (entry_of k z) m) → Plans ws k z m r
+  short : r ≡ Err Full → overflows (capacity (length ws)) (entry_of k z) m ≡ true → Plans ws k z m r
 
 -- ---- a new node is needed
 
@@ -114,7 +115,7 @@ module _ {ws : List ℕ} {m : Map} {h : Holds ws m} {k : Prefix} {z : ℕ} {c : 
 
   plan_above : (x : Bool) → Says (Above x) p (string_of k) → (a next : ℕ)
       → new_on ws (header_at ws) k z (link_at 0 c) (Mismatching d (length (lcp p (string_of k)))) a next
-      ≡ Go (hang_plan ws c a next (above_write k z a x d) nowhere_of)
+      ≡ Ok (hang_plan ws c a next (above_write k z a x d) nowhere_of)
   plan_above x y a next =
       let b : Bears (record_at ws d) p v = linked_below.1 in
       let w = length-string_of k spot.valid.narrow in

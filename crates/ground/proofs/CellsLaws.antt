@@ -5,76 +5,34 @@
 use Prim.Native.Nat.{ℕ, zero, suc, ◌+◌, ◌*◌, ◌/◌, ◌%◌, ◌^◌, ◌≤◌, ◌<◌}
 use native.Mathlib.Nat.{zero-mul, zero-div, add_comm, pow-suc, mul_assoc}
 use native.Mathlib.Omega.{arith}
-use mathlib.Core.Path.{◌≡◌, refl, sym, ap, ap₂, ◌∙◌, subst}
-use mathlib.Core.Bool.{Bool, true, false, ◌&&◌, cond}
+use mathlib.Core.Path.{◌≡◌, refl, sym, ap, ◌∙◌, subst}
+use mathlib.Core.Bool.{Bool, true, false, cond}
 use mathlib.Core.List.{[], ◌∷◌, ◌++◌, append_assoc}
-use lib.Dec.{T, leb, lit<, lit≤, leb-zero, leb-suc-suc}
-use lib.IntN.{ℤ, pos, negsuc, nat_abs, ◌+ℤ◌, ◌-ℤ◌}
+use lib.Dec.{lit≤}
+use lib.IntN.{ℤ, pos, negsuc, nat_abs, ◌+ℤ◌}
 use lib.ListN.{length, take, drop, length-drop, take-append-drop}
 use lib.Seq.{take_at, drop_at, length-take-le}
-use lib.Signed.{le_z, non_neg}
-use borrow.Author.Tests.{leb-true, lt-leb, le-ltb, lt-ltb}
+use Rattle.std.proofs.lemmas.Int.{ints}
+use borrow.Author.Tests.{leb-true, le-ltb}
 use mir.Syntax.{w32, w64}
-use mir.Val.{SFits, Fits, to_z, of_z}
-use mir.Facts.{to_z-of_z, to_z_pos, sfits_widen}
+use mir.Val.{SFits, to_z, of_z}
+use Rattle.std.specs.Prelude.{Result, Ok, Err}
 use Rattle.bits.specs.Bits.{Bits}
 use Rattle.bits.specs.Numbers.{odd, bits_of, value}
 use Rattle.bits.proofs.NumbersLaws.{length-bits_of, bits_of-add}
 use Rattle.bits.proofs.ValueLaws.{digit-odd, value_cons, value-append, value-lt, bits_of-value, bits_of-mod}
 use Rattle.prefix.specs.Keys.{string_of, word_bits, Valid}
 use Rattle.prefix.specs.declared.Prefix.{Prefix}
-use Rattle.ground.specs.Cells.{within, shifted, half_turn, quarter_turn, scaled, column, row, interleave, cell_bits, in_range, prefix_of, cell_of, number_of, values_of, Cell}
-use Rattle.ground.specs.declared.Located.{Located}
-use Rattle.ground.specs.declared.Located.TheVariants.{At, BadPosition}
+use Rattle.refusals.specs.Refusals.{number_of}
+use Rattle.refusals.specs.declared.Refusal.{Refusal}
+use Rattle.refusals.specs.declared.Refusal.TheVariants.{BadPosition}
+use Rattle.ground.specs.Cells.{within, shifted, half_turn, quarter_turn, scaled, column, row, interleave, cell_bits, in_range, prefix_of, cell_of, values_of, Cell}
 
 -- ---- signed numbers in the machine
 
 -- a 64-bit number, read back from its bits
 abbrev back : ℤ → ℤ
 back z = to_z w64 (of_z w64 z)
-
--- a 32-bit number is kept where it is widened
-module _ (z : ℤ) (fits : SFits w32 z) where
-  pub widened-fits : SFits w64 (to_z w32 (of_z w32 z))
-  widened-fits = subst (SFits w64) (sym (to_z-of_z fits)) (sfits_widen tt fits)
-
-  pub widened_back : back (to_z w32 (of_z w32 z)) ≡ z
-  widened_back = to_z-of_z widened-fits ∙ to_z-of_z fits
-
--- ---- within
-
-and_true : (b : Bool) → b && true ≡ b
-and_true true = refl
-and_true false = refl
-
-minus : (n : ℕ) → pos 0 -ℤ pos (suc n) ≡ negsuc n
-minus n = rw (lt-ltb 0 (suc n) (omega arith)) (ap negsuc (omega arith))
-
-minus-fits : (n : ℕ) → n < 2 ^ 32 → SFits w64 (pos 0 -ℤ pos n)
-minus-fits zero h = record { sfits = lit< tt }
-minus-fits (suc n) h = subst (SFits w64) (sym (minus n)) (record { sfits = omega arith })
-
--- the two tests of `inside`
-within-tests : (half : ℕ) (z : ℤ) → le_z (pos 0 -ℤ pos half) z && le_z z (pos half) ≡ within half z
-within-tests zero (pos n) = rw (leb-zero n)
-within-tests zero (negsuc n) = sym (lt-leb (suc n) 0 (omega arith))
-within-tests (suc half) (pos n) = ap (λ (y : ℤ). le_z y (pos n) && leb n (suc half)) (minus half)
-within-tests (suc half) (negsuc n) = ap (λ (y : ℤ). le_z y (negsuc n) && true) (minus half) ∙ rw (leb-suc-suc, and_true)
-
--- the tests as the machine makes them
-module _ (half : ℕ) (small : half < 2 ^ 32) where
-  most_back : to_z w64 half ≡ pos half
-  most_back = to_z_pos w64 (omega arith)
-
-  pub least_fits : SFits w64 (pos 0 -ℤ to_z w64 half)
-  least_fits = subst (λ (y : ℤ). SFits w64 (pos 0 -ℤ y)) (sym most_back) (minus-fits half small)
-
-  pub within_back : (z : ℤ) → SFits w64 z
-      → le_z (back (pos 0 -ℤ to_z w64 half)) (back z) && le_z (back z) (to_z w64 half) ≡ within half z
-  within_back z fits =
-      ap₂ (λ (x y : ℤ). le_z x y && le_z y (to_z w64 half)) (to_z-of_z least_fits) (to_z-of_z fits)
-      ∙ ap (λ (y : ℤ). le_z (pos 0 -ℤ y) z && le_z z y) most_back
-      ∙ within-tests half z
 
 -- ---- shifted
 
@@ -86,28 +44,16 @@ pub shifted-add : (half : ℕ) (z : ℤ) → within half z ≡ true → z +ℤ p
 shifted-add half (pos n) h = ap pos (add_comm n half)
 shifted-add half (negsuc n) h = rw (le-ltb half (suc n) (leb-true _ _ h))
 
--- the shift as the machine makes it, and as it reads it back
-module _ (half : ℕ) (z : ℤ) (fits : SFits w64 z) (small : half ≤ half_turn) (h : within half z ≡ true) where
-  sum_shifted : back z +ℤ to_z w64 half ≡ pos (shifted half z)
-  sum_shifted = ap₂ ◌+ℤ◌ (to_z-of_z fits) (to_z_pos w64 (omega arith)) ∙ shifted-add half z h
-
-  pub sum_fits : SFits w64 (back z +ℤ to_z w64 half)
-  sum_fits = subst (SFits w64) (sym sum_shifted) (record { sfits = omega (arith, shifted-le half z h) })
-
-  sum_back : back (back z +ℤ to_z w64 half) ≡ pos (shifted half z)
-  sum_back = to_z-of_z sum_fits ∙ sum_shifted
-
-  pub sum_cast : T (non_neg (back (back z +ℤ to_z w64 half))) × Fits w64 (nat_abs (back (back z +ℤ to_z w64 half)))
-  sum_cast =
-      subst (λ (y : ℤ). T (non_neg y) × Fits w64 (nat_abs y)) (sym sum_back) (tt, omega (arith, shifted-le half z h))
-
-  pub sum-times : Fits w64 (nat_abs (back (back z +ℤ to_z w64 half)) * 4294967296)
-  sum-times =
-      subst (λ (y : ℤ). Fits w64 (nat_abs y * 4294967296)) (sym sum_back) (omega (arith, shifted-le half z h))
-
-  pub scaled_back : nat_abs (back (back z +ℤ to_z w64 half)) * 4294967296 / (2 * half) ≡ scaled half z
-  unfolding scaled
-  scaled_back = ap (λ (y : ℤ). nat_abs y * 4294967296 / (2 * half)) sum_back
+-- the shift as the machine makes it, and reads it back
+pub scaled_back : (half : ℕ) (z x y : ℤ) → SFits w32 z → x ≡ to_z w32 (of_z w32 z) → y ≡ pos half → half ≤ half_turn → within half z ≡ true
+    → nat_abs (back (back x +ℤ back y)) * 4294967296 / (2 * nat_abs (back y)) ≡ scaled half z
+unfolding scaled
+scaled_back half z x y fits ex ey small h =
+    let e : z +ℤ pos half ≡ pos (shifted half z) = shifted-add half z h in
+    let l : shifted half z ≤ 2 * half = shifted-le half z h in
+    let n : nat_abs (back (back x +ℤ back y)) ≡ shifted half z = omega (arith, ints) in
+    let k : nat_abs (back y) ≡ half = omega (arith, ints) in
+    rw (n, k)
 
 -- ---- interleave
 
@@ -208,40 +154,40 @@ prefix_of-turns c r p e =
 
 -- ---- cell_of
 
-pub cell_of-longitude : (lon lat : ℤ) → within half_turn lon ≡ false → BadPosition ≡ cell_of lon lat
+pub cell_of-longitude : (lon lat : ℤ) → within half_turn lon ≡ false → Err BadPosition ≡ cell_of lon lat
 unfolding cell_of in_range
 cell_of-longitude lon lat h = rw h
 
-pub cell_of-latitude : (lon lat : ℤ) → within half_turn lon ≡ true → within quarter_turn lat ≡ false → BadPosition ≡ cell_of lon lat
+pub cell_of-latitude : (lon lat : ℤ) → within half_turn lon ≡ true → within quarter_turn lat ≡ false → Err BadPosition ≡ cell_of lon lat
 unfolding cell_of in_range
 cell_of-latitude lon lat h i = rw (h, i)
 
 pub cell_of_at : (lon lat : ℤ) (p : Prefix) → within half_turn lon ≡ true → within quarter_turn lat ≡ true
-    → p ≡ prefix_of (turns 32 (column lon) (row lat)) → At p ≡ cell_of lon lat
+    → p ≡ prefix_of (turns 32 (column lon) (row lat)) → Ok p ≡ cell_of lon lat
 unfolding cell_of in_range cell_bits
 cell_of_at lon lat p h i e = rw (h, i, e)
 
 -- ---- Cell
 
-values_of-refused : (r : Located) → number_of r ≡ 3 → values_of r ≡ 0 ∷ 0 ∷ 0 ∷ 0 ∷ 0 ∷ []
-values_of-refused (At p) h = cc
-values_of-refused BadPosition h = refl
+values_of-refused : (r : Result Prefix Refusal) → number_of r ≡ 3 → values_of r ≡ 0 ∷ 0 ∷ 0 ∷ 0 ∷ 0 ∷ []
+values_of-refused (Ok p) h = cc
+values_of-refused (Err e) h = refl
 
 -- (k the cell's bits, and b whether the position is in range)
-module _ (k : Bits) (h : length k ≡ 64) (r : Located) where
-  number_of_at : (b : Bool) → r ≡ cond b (At (prefix_of k)) BadPosition → number_of r ≡ cond b 0 3
+module _ (k : Bits) (h : length k ≡ 64) (r : Result Prefix Refusal) where
+  number_of_at : (b : Bool) → r ≡ cond b (Ok (prefix_of k)) (Err BadPosition) → number_of r ≡ cond b 0 3
   number_of_at true e = ap number_of e
   number_of_at false e = ap number_of e
 
-  meaning_at : (b : Bool) → r ≡ cond b (At (prefix_of k)) BadPosition
-      → (p : Prefix) → r ≡ At p → Valid p × (p.width ≡ 64) × (string_of p ≡ k)
+  meaning_at : (b : Bool) → r ≡ cond b (Ok (prefix_of k)) (Err BadPosition)
+      → (p : Prefix) → r ≡ Ok p → Valid p × (p.width ≡ 64) × (string_of p ≡ k)
   unfolding prefix_of
   meaning_at true e p g =
       let same : prefix_of k ≡ p = cc in
       subst (λ (q : Prefix). Valid q × (q.width ≡ 64) × (string_of q ≡ k)) same (prefix_of-valid k h, refl, string_of-prefix_of k h)
   meaning_at false e p g = absurd (let z : ◌≡◌ {A = ℕ} 0 1 = cc in omega arith)
 
-pub cell-promise : (lon lat : ℤ) (r : Located) → r ≡ cell_of lon lat → Cell lon lat r
+pub cell-promise : (lon lat : ℤ) (r : Result Prefix Refusal) → r ≡ cell_of lon lat → Cell lon lat r
 unfolding cell_of cell_bits
 cell-promise lon lat r e =
     let k = cell_bits lon lat in

@@ -7,16 +7,17 @@
 --   cell_bits          the 64 bits of a cell
 --   in_range           both parts of a position are in their range
 --   cell_of            what `cell` answers
---   number_of, values_of   the paper's number of an answer, 0 where accepted, and its values
+--   values_of         an answer's values
 --   Cell              the contract of `cell`
 -- Assumes nothing.
-use Rattle.std.specs.Prelude.{ℕ, suc, ◌+◌, ◌-◌, ◌*◌, ◌/◌, min, ◌≡◌, Bool, ◌&&◌, cond, List, [], ◌∷◌, leb, ℤ, pos, negsuc, take, drop}
+use Rattle.std.specs.Prelude.{ℕ, suc, ◌+◌, ◌-◌, ◌*◌, ◌/◌, min, ◌≡◌, Bool, ◌&&◌, cond, List, [], ◌∷◌, Result, Ok, Err, leb, ℤ, pos, negsuc, take, drop}
 use Rattle.bits.specs.Bits.{Bits}
 use Rattle.bits.specs.Numbers.{bits_of, value}
 use Rattle.prefix.specs.Keys.{string_of, Valid}
 use Rattle.prefix.specs.declared.Prefix.{Prefix}
-use Rattle.ground.specs.declared.Located.{Located}
-use Rattle.ground.specs.declared.Located.TheVariants.{At, BadPosition}
+use Rattle.refusals.specs.Refusals.{number_of}
+use Rattle.refusals.specs.declared.Refusal.{Refusal}
+use Rattle.refusals.specs.declared.Refusal.TheVariants.{BadPosition}
 
 abbrev pub within : ℕ → ℤ → Bool
 within half (pos n) = leb n half
@@ -64,25 +65,21 @@ in_range longitude latitude = within half_turn longitude && within quarter_turn 
 unfoldable pub prefix_of : Bits → Prefix
 prefix_of k = record { width = 64; w0 = value (take 32 k); w1 = value (drop 32 k); w2 = 0; w3 = 0 }
 
-unfoldable pub cell_of : ℤ → ℤ → Located
-cell_of longitude latitude = cond (in_range longitude latitude) (At (prefix_of (cell_bits longitude latitude))) BadPosition
-
 -- No. 3, BadPosition: "longitude or latitude outside its range"
-abbrev pub number_of : Located → ℕ
-number_of (At p) = 0
-number_of BadPosition = 3
+unfoldable pub cell_of : ℤ → ℤ → Result Prefix Refusal
+cell_of longitude latitude = cond (in_range longitude latitude) (Ok (prefix_of (cell_bits longitude latitude))) (Err BadPosition)
 
 -- (the key words and the width, as a listing has them)
-abbrev pub values_of : Located → List ℕ
-values_of (At p) = p.w0 ∷ p.w1 ∷ p.w2 ∷ p.w3 ∷ p.width ∷ []
-values_of BadPosition = 0 ∷ 0 ∷ 0 ∷ 0 ∷ 0 ∷ []
+abbrev pub values_of : Result Prefix Refusal → List ℕ
+values_of (Ok p) = p.w0 ∷ p.w1 ∷ p.w2 ∷ p.w3 ∷ p.width ∷ []
+values_of (Err e) = 0 ∷ 0 ∷ 0 ∷ 0 ∷ 0 ∷ []
 
 -- ---- what `cell` promises, for every pair of 32-bit numbers
 
-pub record Cell (longitude latitude : ℤ) (r : Located) : Type 0 where
+pub record Cell (longitude latitude : ℤ) (r : Result Prefix Refusal) : Type 0 where
   -- one value, so no other answer meets it
   pub answer : r ≡ cell_of longitude latitude
   pub number : number_of r ≡ cond (in_range longitude latitude) 0 3
   pub kept : number_of r ≡ 3 → values_of r ≡ 0 ∷ 0 ∷ 0 ∷ 0 ∷ 0 ∷ []
   -- a cell is a valid prefix, and its string is the paper's 64 bits
-  pub meaning : (p : Prefix) → r ≡ At p → Valid p × (p.width ≡ 64) × (string_of p ≡ cell_bits longitude latitude)
+  pub meaning : (p : Prefix) → r ≡ Ok p → Valid p × (p.width ≡ 64) × (string_of p ≡ cell_bits longitude latitude)

@@ -3,18 +3,13 @@
 
 #![tactic(auto)]
 
-ghost use Rattle.std.specs.Prelude.{◌≤◌, ◌<◌, min, ◌≡◌, true};
+ghost use Rattle.std.specs.Prelude.{◌≤◌, ◌<◌, ◌≡◌, true};
 ghost use Rattle.bits.specs.Numbers.{bits_of, value};
 ghost use Rattle.ground.specs.Cells.{within, half_turn, quarter_turn, interleave, prefix_of, Cell};
 ghost use Rattle.ground.specs.Cells.{scaled as scaled_of, column as column_of, row as row_of};
 
 use prefix::Prefix;
-
-#[derive(Clone, Copy)]
-pub enum Located {
-    At(Prefix),
-    BadPosition,
-}
+use refusals::Refusal;
 
 // A half turn and a quarter turn in ten-millionths of a degree.
 const HALF_TURN: u32 = 1_800_000_000;
@@ -27,70 +22,52 @@ const LINES: u64 = 4_294_967_296;
 const LAST_LINE: u64 = 4_294_967_295;
 
 // The cell of a position in ten-millionths of a degree, or BadPosition (3) outside the range.
-pub fn cell(longitude: i32, latitude: i32) -> Located
+pub fn cell(longitude: i32, latitude: i32) -> Result<Prefix, Refusal>
     ensures { Cell longitude latitude result }
 {
-    let lon = longitude as i64;
-    let lat = latitude as i64;
-    if !inside(lon, HALF_TURN) {
-        return Located::BadPosition;
+    if !inside(longitude, HALF_TURN) || !inside(latitude, QUARTER_TURN) {
+        return Err(Refusal::BadPosition);
     }
-    if !inside(lat, QUARTER_TURN) {
-        return Located::BadPosition;
-    }
-    let c = column(lon);
-    let r = row(lat);
-    Located::At(interleaved(c, r))
+    Ok(interleaved(column(longitude), row(latitude)))
 }
 
 // Whether z is from -half to half.
-fn inside(z: i64, half: u32) -> bool
+fn inside(z: i32, half: u32) -> bool
     ensures { result ≡ within half z }
 {
-    let most = half as i64;
-    let least = 0 - most;
-    (least <= z) & (z <= most)
+    let most = i64::from(half);
+    (-most..=most).contains(&i64::from(z))
 }
 
 // The column of a longitude.
-fn column(lon: i64) -> u32
+fn column(lon: i32) -> u32
     requires { within half_turn lon ≡ true }
     ensures { result ≡ column_of lon }
 {
-    let line = scaled(lon, HALF_TURN);
-    at_most_last(line)
+    scaled(lon, HALF_TURN).min(LAST_LINE) as u32
 }
 
-// The row of a latitude.
-fn row(lat: i64) -> u32
+// The row of a latitude. Stays beside `column`: the rule at the last column has a change ahead of it that rows have not.
+fn row(lat: i32) -> u32
     requires { within quarter_turn lat ≡ true }
     ensures { result ≡ row_of lat }
 {
-    let line = scaled(lat, QUARTER_TURN);
-    at_most_last(line)
+    scaled(lat, QUARTER_TURN).min(LAST_LINE) as u32
 }
 
 // The line that z lies on, of LINES lines from -half to half: LINES itself at half.
-fn scaled(z: i64, half: u32) -> u64
+fn scaled(z: i32, half: u32) -> u64
     requires half_nonzero { (0 < half) × (half ≤ half_turn) }
     requires z_value { within half z ≡ true }
     ensures { result ≡ scaled_of half z }
 {
-    let sum = z + half as i64;
+    let wide = i64::from(z);
+    let most = i64::from(half);
+    let sum = wide + most;
     let shifted = sum as u64;
     let product = shifted * LINES;
-    let whole = 2 * half as u64;
+    let whole = 2 * most as u64;
     product / whole
-}
-
-// A line's number, and the last line's where it is past that.
-fn at_most_last(line: u64) -> u32
-    ensures { result ≡ min line 4294967295 }
-{
-    if LAST_LINE < line {
-        return LAST_LINE as u32;
-    }
-    line as u32
 }
 
 // The prefix of width 64 whose bits are those of c and r in turn, c's first.
@@ -119,6 +96,7 @@ fn mixed(c: u32, r: u32) -> u32
 }
 
 // The 16 bits of x, each after a 0.
+// Stays beside `spread_byte`: one function for both sizes would take the half's function and width, and be longer.
 fn spread(x: u32) -> u32
     requires { x < 65536 }
     ensures { result ≡ value (interleave (bits_of 16 0) (bits_of 16 x)) }

@@ -13,10 +13,10 @@ use mathlib.Core.Option.{Option, none, some, some-injective, none-ne-some}
 use lib.Dec.{T, ltb, leb, eqb, ltb→lt, lt→ltb, leb→le, eqb→eq, eqb_refl, not_T}
 use lib.ListN.{length, length-append, length-map}
 use borrow.Author.Tests.{eq-eqb}
+use Rattle.std.specs.declared.cmp.Ordering.{Ordering}
+use Rattle.std.specs.declared.cmp.Ordering.TheVariants.{Less, Equal, Greater}
 use Rattle.bits.specs.Lists.{all, keep, each}
 use Rattle.bits.specs.Bits.{Bits, order, equal}
-use Rattle.bits.specs.declared.Order.{Order}
-use Rattle.bits.specs.declared.Order.TheVariants.{Before, Same, After}
 use Rattle.bits.proofs.ListsLaws.{and_left, and_right, and_both, mem-all, all_mem, mem-map, mem-keep, or_left, or_right, or_cases}
 use Rattle.zones.specs.Maps.{Entry, Map, keys, ascending, longest_match}
 use Rattle.zones.specs.Nodes.{join, join_at, in_order}
@@ -30,11 +30,11 @@ use Rattle.image.proofs.ZonesLaws.{ascending-zones_of, uses, mem-zones_of, zones
 
 -- ---- how many nodes
 
-length-join_at : (o : Order) (p q : Bits) (qs : List Bits) → length (join p qs) ≤ suc (length qs)
+length-join_at : (o : Ordering) (p q : Bits) (qs : List Bits) → length (join p qs) ≤ suc (length qs)
     → length (join_at o p q qs (join p qs)) ≤ suc (suc (length qs))
-length-join_at Before p q qs h = omega arith
-length-join_at Same p q qs h = omega arith
-length-join_at After p q qs h = omega arith
+length-join_at Less p q qs h = omega arith
+length-join_at Equal p q qs h = omega arith
+length-join_at Greater p q qs h = omega arith
 
 length-join : (p : Bits) (qs : List Bits) → length (join p qs) ≤ suc (length qs)
 length-join p [] = omega arith

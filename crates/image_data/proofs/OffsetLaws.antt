@@ -135,7 +135,7 @@ module _ (s : ℕ) (zs : List ℕ) (few : s ≤ 4) (ascends : T (ascending_numbe
       let size : length (short z) ≡ s = rw e at (size-run_of i l) in
       ap (λ (l : List ℕ). offset l z) (around_run s zs ascends fit)
       ∙ offset_below s (below s zs) (run_of s zs ++ from (suc s) zs) z (all-keep_same (λ x. ltb (length (short x)) s) zs) size
-      ∙ rw (length_below s zs few)
+      ∙ rw (length_below s zs (omega arith))
       (ap (λ (n : ℕ). start_of (runs_of zs) s + n)
       (offset_run s (run_of s zs) (from (suc s) zs) i z (all-keep_same (of_size s) zs) (ascending-keep (of_size s) zs ascends) l e))
 
@@ -144,7 +144,7 @@ module _ (s : ℕ) (zs : List ℕ) (few : s ≤ 4) (ascends : T (ascending_numbe
       → number_at (data_of zs ++ rest) (start_of (runs_of zs) s + (s + 1) * i + 1) s ≡ get_or (run_of s zs) i 0
   number_at-runs rest i l =
       let end = data_of (from (suc s) zs) ++ rest in
-      let p : start_of (runs_of zs) s + (s + 1) * i + 1 ≡ length (data_of (below s zs)) + ((s + 1) * i + 1) = omega (arith, length_below s zs few) in
+      let p : start_of (runs_of zs) s + (s + 1) * i + 1 ≡ length (data_of (below s zs)) + ((s + 1) * i + 1) = omega (arith, length_below s zs (omega arith)) in
       let parts : data_of zs ++ rest ≡ data_of (below s zs) ++ (data_of (run_of s zs) ++ end) =
       ap (λ (l : List ℕ). data_of l ++ rest) (around_run s zs ascends fit) ∙ simp (data_of-append, append_assoc) in
       rw (p, parts, number_at-after (data_of (below s zs)) (data_of (run_of s zs) ++ end) ((s + 1) * i + 1) s)

@@ -2,11 +2,11 @@
 -- place gives. No contract cites this file.
 --   Between   where the number is in the run, it stands from `low` on and not after `high`
 -- Assumes nothing.
-use Prim.Native.Nat.{ℕ, zero, suc, ◌+◌, ◌*◌, ◌≤◌, ◌<◌}
+use Prim.Native.Nat.{ℕ, ◌+◌, ◌*◌, ◌≤◌, ◌<◌}
 use native.Mathlib.Nat.{mul-le-mul_left}
 use native.Mathlib.Decide.{dec_lt}
 use native.Mathlib.Omega.{arith}
-use mathlib.Core.Path.{◌≡◌, refl, sym, ap, ◌∙◌}
+use mathlib.Core.Path.{◌≡◌, sym, ap, ◌∙◌}
 use mathlib.Core.List.{List, Memᴰ}
 use lib.Dec.{T, eqb, eqb_refl}
 use lib.ListN.{length, get_or}
@@ -15,8 +15,9 @@ use Rattle.image.specs.Bytes.{short}
 use Rattle.image.specs.Image.{offset}
 use Rattle.image.specs.Ascending.{ascending_numbers}
 use Rattle.metadata.specs.Frames.{number_at}
-use Rattle.image_data.specs.Runs.{run_of, count_of, runs_of, length_of, start_of, share_of, DataAt, RunAt, Placed, Offset}
+use Rattle.image_data.specs.Runs.{run_of, count_of, runs_of, start_of, share_of, DataAt, RunAt, Placed, Offset}
 use Rattle.image_data.specs.declared.Runs.{Runs}
+use Rattle.image_data.proofs.RunsLaws.{share_of-runs, run-le}
 use Rattle.image_data.proofs.OffsetLaws.{mem-get_or, get_or-ascending, offset-runs, run_at-data}
 
 -- ---- the loop
@@ -68,45 +69,24 @@ module _ (bs : List ℕ) (at s count z : ℕ) where
 pub entry-le : (s m count : ℕ) → m < count → (s + 1) * m + 1 + s ≤ (s + 1) * count
 entry-le s m count h = omega (arith, mul-le-mul_left (s + 1) h)
 
-run-le_at : (r : Runs) (s : ℕ) → s ≤ 4 → start_of r s + (s + 1) * share_of r s ≤ length_of r
-unfolding length_of
-run-le_at r zero h = omega arith
-run-le_at r (suc zero) h = omega arith
-run-le_at r (suc (suc zero)) h = omega arith
-run-le_at r (suc (suc (suc zero))) h = omega arith
-run-le_at r (suc (suc (suc (suc zero)))) h = omega arith
-run-le_at r (suc (suc (suc (suc (suc s))))) h = absurd (omega arith)
-
--- a run ends inside the section
-pub run-le : (r : Runs) (s start count : ℕ) → s ≤ 4 → start ≡ start_of r s → count ≡ share_of r s → start + (s + 1) * count ≤ length_of r
-run-le r s start count h e q = rw (e, q) (run-le_at r s h)
-
 -- ---- the offset
-
-share_of-runs_of : (s : ℕ) (zs : List ℕ) → s ≤ 4 → share_of (runs_of zs) s ≡ length (run_of s zs)
-unfolding runs_of count_of
-share_of-runs_of zero zs h = refl
-share_of-runs_of (suc zero) zs h = refl
-share_of-runs_of (suc (suc zero)) zs h = refl
-share_of-runs_of (suc (suc (suc zero))) zs h = refl
-share_of-runs_of (suc (suc (suc (suc zero)))) zs h = refl
-share_of-runs_of (suc (suc (suc (suc (suc s))))) zs h = absurd (omega arith)
 
 -- the place of a number in its run gives its offset
 offset-placed_at : (bs : List ℕ) (base : ℕ) (runs : Runs) (s z i : ℕ) → s ≡ length (short z) → s ≤ 4
     → Placed bs (base + start_of runs s) s (share_of runs s) z i → (zs : List ℕ) → DataAt bs base zs → runs ≡ runs_of zs → Memᴰ z zs
     → start_of runs s + (s + 1) * i ≡ offset zs z
+unfolding count_of
 offset-placed_at bs base runs s z i size few p zs d e m =
     let j = mem-get_or z (run_of s zs) (mem-keep (λ y. eqb (length (short y)) s) zs z m (rw size (eqb_refl (length (short z))))) in
-    let share : share_of runs s ≡ length (run_of s zs) = ap (λ (r : Runs). share_of r s) e ∙ share_of-runs_of s zs few in
+    let share : share_of runs s ≡ length (run_of s zs) = ap (λ (r : Runs). share_of r s) e ∙ share_of-runs s zs few in
     let place : i ≡ j.0 = p.right (run_of s zs) (rw e (run_at-data bs base s zs few d)) (sym share) j.0 (omega arith) j.2 in
     ap (λ (r : Runs). start_of r s + (s + 1) * i) e
     ∙ ap (λ (n : ℕ). start_of (runs_of zs) s + (s + 1) * n) place
     ∙ sym (offset-runs s zs few d.ascends d.zones_fit j.0 z j.1 j.2)
 
-pub offset-placed : (bs : List ℕ) (base : ℕ) (runs : Runs) (s start count z i : ℕ) → s ≡ length (short z) → s ≤ 4 → start ≡ start_of runs s
-    → count ≡ share_of runs s → Placed bs (base + start) s count z i → Offset bs base runs z (start + (s + 1) * i)
-offset-placed bs base runs s start count z i size few e q p = record {
-  within = omega (arith, run-le runs s start count few e q, mul-le-mul_left (s + 1) p.within);
-  right = rw e (offset-placed_at bs base runs s z i size few (rw (e, q) at p));
+pub offset-placed : (bs : List ℕ) (base : ℕ) (runs : Runs) (s start z i : ℕ) → s ≡ length (short z) → s ≤ 4 → start ≡ start_of runs s
+    → Placed bs (base + start) s (share_of runs s) z i → Offset bs base runs z (start + (s + 1) * i)
+offset-placed bs base runs s start z i size few e p = record {
+  within = rw e (omega (arith, run-le runs s few, mul-le-mul_left (s + 1) p.within));
+  right = rw e (offset-placed_at bs base runs s z i size few (rw e at p));
 }

@@ -10,8 +10,9 @@ use mathlib.Core.Path.{◌≡◌, refl, sym, ap, ◌∙◌}
 use mathlib.Core.Bool.{Bool, true, false, cond}
 use mathlib.Core.List.{List, [], ◌∷◌, ◌++◌, append_assoc}
 use lib.Dec.{T, ltb, leb, eqb, ltb→lt, lt→ltb}
-use lib.ListN.{length, length-append}
-use borrow.Author.Tests.{ltb-true, ltb-false, eqb-true, eqb-false, lt-ltb, le-ltb, le-leb, lt-leb}
+use lib.ListN.{length, get_or, set, length-append}
+use lib.Seq.{get_or-set_other}
+use borrow.Author.Tests.{ltb-true, ltb-false, eqb-true, eqb-false, ne_eqb, lt-ltb, le-ltb, le-leb, lt-leb}
 use Rattle.bits.specs.Lists.{all, keep}
 use Rattle.bits.proofs.ListsLaws.{and_left, and_right, all_mem, keep-none, keep-every, keep_append}
 use Rattle.image.specs.Bytes.{short, uint32}
@@ -19,7 +20,7 @@ use Rattle.image.specs.Image.{data_of}
 use Rattle.image.specs.Ascending.{ascending_numbers}
 use Rattle.image.proofs.LengthLaws.{length_short_below}
 use Rattle.image.proofs.BytesLaws.{length_short_mono}
-use Rattle.image_data.specs.Runs.{run_of, count_of, runs_of, length_of, start_of, one_more}
+use Rattle.image_data.specs.Runs.{run_of, count_of, runs_of, share_of, length_of, start_of, one_more}
 use Rattle.image_data.specs.declared.Runs.{Runs}
 
 abbrev pub below : ℕ → List ℕ → List ℕ
@@ -77,17 +78,30 @@ length_below_zero : (zs : List ℕ) → length (data_of (below 0 zs)) ≡ 0
 unfolding data_of
 length_below_zero zs = ap (λ (l : List ℕ). length (data_of l)) (below_zero zs)
 
--- the run of s bytes starts where the numbers of fewer bytes end
-pub length_below : (s : ℕ) (zs : List ℕ) → s ≤ 4 → length (data_of (below s zs)) ≡ start_of (runs_of zs) s
+pub share_of-runs : (s : ℕ) (zs : List ℕ) → s ≤ 4 → share_of (runs_of zs) s ≡ count_of s zs
 unfolding runs_of
+share_of-runs zero zs h = refl
+share_of-runs (suc zero) zs h = refl
+share_of-runs (suc (suc zero)) zs h = refl
+share_of-runs (suc (suc (suc zero))) zs h = refl
+share_of-runs (suc (suc (suc (suc zero)))) zs h = refl
+share_of-runs (suc (suc (suc (suc (suc s))))) zs h = absurd (omega arith)
+
+-- the run of s bytes starts where the numbers of fewer bytes end
+pub length_below : (s : ℕ) (zs : List ℕ) → s ≤ 5 → length (data_of (below s zs)) ≡ start_of (runs_of zs) s
 length_below zero zs h = length_below_zero zs
-length_below (suc zero) zs h = omega (arith, length_below_zero zs, length_below-suc 0 zs)
-length_below (suc (suc zero)) zs h = omega (arith, length_below_zero zs, length_below-suc 0 zs, length_below-suc 1 zs)
-length_below (suc (suc (suc zero))) zs h =
-    omega (arith, length_below_zero zs, length_below-suc 0 zs, length_below-suc 1 zs, length_below-suc 2 zs)
-length_below (suc (suc (suc (suc zero)))) zs h =
-    omega (arith, length_below_zero zs, length_below-suc 0 zs, length_below-suc 1 zs, length_below-suc 2 zs, length_below-suc 3 zs)
-length_below (suc (suc (suc (suc (suc s))))) zs h = absurd (omega arith)
+length_below (suc s) zs h =
+    rw (length_below-suc s zs, length_below s zs (omega arith), share_of-runs s zs (omega arith))
+
+-- a run ends inside the section
+pub run-le : (r : Runs) (s : ℕ) → s ≤ 4 → start_of r s + (s + 1) * share_of r s ≤ length_of r
+unfolding length_of
+run-le r zero h = omega arith
+run-le r (suc zero) h = omega arith
+run-le r (suc (suc zero)) h = omega arith
+run-le r (suc (suc (suc zero))) h = omega arith
+run-le r (suc (suc (suc (suc zero)))) h = omega arith
+run-le r (suc (suc (suc (suc (suc s))))) h = absurd (omega arith)
 
 -- ---- numbers below 2 ^ 32
 
@@ -98,9 +112,8 @@ below_five zs h =
     (λ a i. lt→ltb (length (short a)) 5 (omega (arith, length_short_below 4 a (omega arith) (ltb→lt a (2 ^ 32) (all_mem (λ z. ltb z (2 ^ 32)) zs h a i)))))
 
 pub length-data_of-runs : (zs : List ℕ) → T (all (λ z. ltb z (2 ^ 32)) zs) → length (data_of zs) ≡ length_of (runs_of zs)
-unfolding length_of runs_of
-length-data_of-runs zs h =
-    ap (λ (l : List ℕ). length (data_of l)) (sym (below_five zs h)) ∙ omega (arith, length_below-suc 4 zs, length_below 4 zs (omega arith))
+unfolding length_of
+length-data_of-runs zs h = ap (λ (l : List ℕ). length (data_of l)) (sym (below_five zs h)) ∙ length_below 5 zs (omega arith)
 
 -- ---- ascending numbers
 
@@ -158,18 +171,9 @@ pub count_of-append : (s : ℕ) (xs ys : List ℕ) → count_of s (xs ++ ys) ≡
 unfolding count_of
 count_of-append s xs ys = rw (keep_append (λ z. eqb (length (short z)) s) xs ys, length-append)
 
--- the runs of two lists together, field by field
-pub runs_of-append : (xs ys : List ℕ)
-    → runs_of (xs ++ ys)
-    ≡ record {
-      n0 = (runs_of xs).n0 + (runs_of ys).n0;
-      n1 = (runs_of xs).n1 + (runs_of ys).n1;
-      n2 = (runs_of xs).n2 + (runs_of ys).n2;
-      n3 = (runs_of xs).n3 + (runs_of ys).n3;
-      n4 = (runs_of xs).n4 + (runs_of ys).n4;
-    }
-unfolding runs_of
-runs_of-append xs ys = simp count_of-append
+-- the runs of two lists together, run by run
+pub runs_of-append : (xs ys : List ℕ) (s : ℕ) → s ≤ 4 → share_of (runs_of (xs ++ ys)) s ≡ share_of (runs_of xs) s + share_of (runs_of ys) s
+runs_of-append xs ys s h = rw (share_of-runs s (xs ++ ys) h, share_of-runs s xs h, share_of-runs s ys h) (count_of-append s xs ys)
 
 -- ---- one more number
 
@@ -181,23 +185,47 @@ count_of_one s z = at (eqb (length (short z)) s)
     at true = refl
     at false = refl
 
-one_more_is : (r : Runs) (n : ℕ) → n ≤ 4
-    → record {
-      n0 = r.n0 + cond (eqb n 0) 1 0;
-      n1 = r.n1 + cond (eqb n 1) 1 0;
-      n2 = r.n2 + cond (eqb n 2) 1 0;
-      n3 = r.n3 + cond (eqb n 3) 1 0;
-      n4 = r.n4 + cond (eqb n 4) 1 0;
-    }
-    ≡ one_more r n
-one_more_is r zero h = simp add-zero
-one_more_is r (suc zero) h = simp add-zero
-one_more_is r (suc (suc zero)) h = simp add-zero
-one_more_is r (suc (suc (suc zero))) h = simp add-zero
-one_more_is r (suc (suc (suc (suc zero)))) h = simp add-zero
-one_more_is r (suc (suc (suc (suc (suc n))))) h = absurd (omega arith)
+one_more_is : (a b c d e n : ℕ) → n ≤ 4
+    → ◌≡◌ {A = Runs}
+    record { counts = (a + cond (eqb n 0) 1 0) ∷ (b + cond (eqb n 1) 1 0) ∷ (c + cond (eqb n 2) 1 0) ∷ (d + cond (eqb n 3) 1 0) ∷ (e + cond (eqb n 4) 1 0) ∷ [] }
+    (one_more (record { counts = a ∷ b ∷ c ∷ d ∷ e ∷ [] }) n)
+one_more_is a b c d e zero h = simp add-zero
+one_more_is a b c d e (suc zero) h = simp add-zero
+one_more_is a b c d e (suc (suc zero)) h = simp add-zero
+one_more_is a b c d e (suc (suc (suc zero))) h = simp add-zero
+one_more_is a b c d e (suc (suc (suc (suc zero)))) h = simp add-zero
+one_more_is a b c d e (suc (suc (suc (suc (suc n))))) h = absurd (omega arith)
 
 pub runs_of-snoc : (zs : List ℕ) (z : ℕ) → z < 2 ^ 32 → runs_of (zs ++ (z ∷ [])) ≡ one_more (runs_of zs) (length (short z))
 unfolding runs_of
 runs_of-snoc zs z h =
-    simp (count_of-append, count_of_one) (one_more_is (runs_of zs) (length (short z)) (length_short_below 4 z (omega arith) h))
+    simp (count_of-append, count_of_one) (one_more_is _ _ _ _ _ (length (short z)) (length_short_below 4 z (omega arith) h))
+
+more_here : (xs : List ℕ) (s : ℕ) → get_or (set xs s (get_or xs s 0 + 1)) s 0 ≤ get_or xs s 0 + 1
+more_here [] s = omega arith
+more_here (x ∷ xs) zero = omega arith
+more_here (x ∷ xs) (suc s) = more_here xs s
+
+share_of-more : (r : Runs) (s i : ℕ) → share_of (one_more r s) i ≤ share_of r i + cond (eqb i s) 1 0
+share_of-more r s i = at (eqb i s) refl
+  where
+    at : (b : Bool) → eqb i s ≡ b → share_of (one_more r s) i ≤ share_of r i + cond b 1 0
+    at true q = let e = eqb-true i s q in rw e (more_here r.counts s)
+    at false q = rw (get_or-set_other r.counts s i (share_of r s + 1) 0 (eqb-false i s q)) (omega arith)
+
+-- a number takes five bytes at most
+one_entry : (s : ℕ) → cond (eqb 0 s) 1 0 + 2 * cond (eqb 1 s) 1 0 + 3 * cond (eqb 2 s) 1 0 + 4 * cond (eqb 3 s) 1 0 + 5 * cond (eqb 4 s) 1 0 ≤ 5
+one_entry zero = omega arith
+one_entry (suc zero) = omega arith
+one_entry (suc (suc zero)) = omega arith
+one_entry (suc (suc (suc zero))) = omega arith
+one_entry (suc (suc (suc (suc zero)))) = omega arith
+one_entry (suc (suc (suc (suc (suc s))))) =
+    let n : ℕ = suc (suc (suc (suc (suc s)))) in
+    let no : (i : ℕ) → i < 5 → eqb i n ≡ false = λ i h. ne_eqb i n (λ e. omega arith) in
+    rw (no 0 (omega arith), no 1 (omega arith), no 2 (omega arith), no 3 (omega arith), no 4 (omega arith)) (omega arith)
+
+pub length_of-one_more : (r : Runs) (s : ℕ) → length_of (one_more r s) ≤ length_of r + 5
+unfolding length_of
+length_of-one_more r s =
+    omega (arith, share_of-more r s 0, share_of-more r s 1, share_of-more r s 2, share_of-more r s 3, share_of-more r s 4, one_entry s)

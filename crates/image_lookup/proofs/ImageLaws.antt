@@ -10,6 +10,7 @@ use mathlib.Core.List.{List, [], ◌∷◌, ◌++◌, append_assoc, Memᴰ}
 use lib.Dec.{ltb, ltb→lt}
 use lib.ListN.{length, drop, get_or, replicate, length-append, length-drop}
 use lib.Seq.{take-append_seam, drop-append-le, drop-append-add, drop-drop, get_or-drop}
+use Rattle.std.specs.Prelude.{Some, None, Ok}
 use Rattle.bits.proofs.ListsLaws.{and_left, and_right, all_mem}
 use Rattle.zones.specs.Maps.{Map}
 use Rattle.image.specs.Bytes.{bytes_of, short, uint32}
@@ -22,13 +23,12 @@ use Rattle.metadata.specs.Frames.{number_at, tail_of}
 use Rattle.metadata.proofs.ValueLaws.{value_of-bytes_of, value_of_short}
 use Rattle.metadata.proofs.ImageLaws.{front_of, image_parts}
 use Rattle.image_lookup.specs.Looking.{record_in, entry_on, leaf_on}
-use Rattle.image_lookup.specs.declared.Looked.TheVariants.{Zone, NoData}
 use Rattle.image_lookup.proofs.ReadingLaws.{entry_on-zone, leaf_on-none, leaf_on-entry}
 
 -- ---- entry_on
 
 -- a number with its control byte is read as it
-entry_on-uint32 : (bs after : List ℕ) (at z : ℕ) → z < 2 ^ 32 → drop at bs ≡ uint32 z ++ after → entry_on bs at ≡ Zone z
+entry_on-uint32 : (bs after : List ℕ) (at z : ℕ) → z < 2 ^ 32 → drop at bs ≡ uint32 z ++ after → entry_on bs at ≡ Ok (Some z)
 unfolding uint32 number_at
 entry_on-uint32 bs after at z h e =
     let few : length (short z) ≤ 4 = length_short_below 4 z (omega arith) h in
@@ -111,11 +111,11 @@ module _ {bs : List ℕ} {m : Map} {epoch : ℕ} (h : IsImage size24 bs m epoch)
             ∙ append_assoc (uint32 z) (drop (off + length (uint32 z)) data') tail,
       )
 
-  pub leaf_on-no_data : leaf_on bs nodes nodes ≡ NoData
+  pub leaf_on-no_data : leaf_on bs nodes nodes ≡ Ok None
   leaf_on-no_data = sym (leaf_on-none bs nodes nodes refl)
 
-  pub leaf_on-zone : (z : ℕ) → Memᴰ z zones → z < 2 ^ 32 → leaf_on bs nodes (nodes + 16 + offset zones z) ≡ Zone z
+  pub leaf_on-zone : (z : ℕ) → Memᴰ z zones → z < 2 ^ 32 → leaf_on bs nodes (nodes + 16 + offset zones z) ≡ Ok (Some z)
   leaf_on-zone z i l =
       let u = drop-zone z i in
-      sym (leaf_on-entry bs nodes (nodes + 16 + offset zones z) (λ e. omega arith) (omega arith) (Zone z)
+      sym (leaf_on-entry bs nodes (nodes + 16 + offset zones z) (λ e. omega arith) (omega arith) (Ok (Some z))
       (sym (entry_on-uint32 bs u.0 (5 * nodes + (nodes + 16 + offset zones z)) z l u.1)))

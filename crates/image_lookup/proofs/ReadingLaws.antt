@@ -3,53 +3,34 @@
 -- Assumes nothing.
 use Prim.Native.Nat.{ℕ, zero, suc, ◌+◌, ◌-◌, ◌*◌, ◌/◌, ◌%◌, ◌^◌, ◌≤◌, ◌<◌}
 use native.Mathlib.Nat.{lt_of_lt_of_le, pow-le-pow_right, mod-lt}
+use native.Mathlib.Numerals.{add-one}
 use native.Mathlib.Omega.{arith}
 use mathlib.Core.Path.{◌≡◌, refl, sym, ap, ◌∙◌}
-use mathlib.Core.Bool.{Bool, true, false, ◌&&◌, cond}
+use mathlib.Core.Bool.{Bool, true, false, cond}
 use mathlib.Core.List.{List, [], ◌∷◌, ◌++◌, append-nil}
-use lib.Dec.{leb, ltb, eqb, lit<}
-use lib.ListN.{length, length-append, get_or, get_or-eq_default}
+use lib.Dec.{ltb, eqb, lit<}
+use lib.ListN.{length, length-append, length-drop, drop, get_or}
+use lib.Seq.{drop-cons}
 use borrow.Author.Tests.{lt-ltb, le-ltb, le-leb, lt-leb, eq-eqb, ne_eqb, ltb-true}
+use Rattle.std.specs.Prelude.{Option, Some, None, Result, Ok, Err}
 use Rattle.bits.specs.Bits.{Bits}
 use Rattle.bits.specs.Numbers.{odd, bits_of}
 use Rattle.bits.proofs.NumbersLaws.{length-bits_of}
 use Rattle.metadata.specs.Frames.{number_at, count_on}
-use Rattle.metadata.specs.declared.Counted.TheVariants as counted
+use Rattle.metadata.specs.declared.Nodes.{Nodes}
+use Rattle.refusals.specs.declared.Refusal.{Refusal}
+use Rattle.refusals.specs.declared.Refusal.TheVariants.{BadImage}
 use Rattle.image_lookup.specs.Looking.{record_in, entry_on, leaf_on, walk_on, look_on, address_bits}
-use Rattle.image_lookup.specs.Following.{follow_on}
-use Rattle.image_lookup.specs.declared.Looked.{Looked}
-use Rattle.image_lookup.specs.declared.Looked.TheVariants.{Zone, NoData, BadImage}
+use Rattle.image_lookup.specs.Following.{words_bits, follow_on}
 
 -- ---- entry_on
 
 module _ (bs : List ℕ) (at : ℕ) where
-  and_false : (a b : Bool) → (a && (b && false)) ≡ false
-  and_false true true = refl
-  and_false true false = refl
-  and_false false b = refl
-
-  pub entry_on_past : length bs ≤ at → BadImage ≡ entry_on bs at
-  unfolding entry_on
-  entry_on_past h = rw (get_or-eq_default bs 0 h)
-
-  pub entry_on_low : get_or bs at 0 < 0xC0 → BadImage ≡ entry_on bs at
-  unfolding entry_on
-  entry_on_low h = rw (lt-leb 0xC0 (get_or bs at 0) h)
-
-  pub entry_on_high : 0xC4 < get_or bs at 0 → BadImage ≡ entry_on bs at
-  unfolding entry_on
-  entry_on_high h = rw (le-leb 0xC0 (get_or bs at 0) (omega arith), lt-leb (get_or bs at 0) 0xC4 h)
-
-  pub entry_on_short : length bs ≤ at + (get_or bs at 0 - 0xC0) → BadImage ≡ entry_on bs at
-  unfolding entry_on
-  entry_on_short h =
-      rw (le-ltb (at + (get_or bs at 0 - 0xC0)) (length bs) h, and_false (leb 0xC0 (get_or bs at 0)) (leb (get_or bs at 0) 0xC4))
-
   pub entry_on-zone : 0xC0 ≤ get_or bs at 0 → get_or bs at 0 ≤ 0xC4 → at + (get_or bs at 0 - 0xC0) < length bs → (z : ℕ)
-      → z ≡ number_at bs (at + 1) (get_or bs at 0 - 0xC0) → Zone z ≡ entry_on bs at
+      → z ≡ number_at bs (at + 1) (get_or bs at 0 - 0xC0) → Ok (Some z) ≡ entry_on bs at
   unfolding entry_on
   entry_on-zone l h k z e =
-      rw (le-leb 0xC0 (get_or bs at 0) l, le-leb (get_or bs at 0) 0xC4 h, lt-ltb (at + (get_or bs at 0 - 0xC0)) (length bs) k) (ap Zone e)
+      rw (le-leb 0xC0 (get_or bs at 0) l, le-leb (get_or bs at 0) 0xC4 h, lt-ltb (at + (get_or bs at 0 - 0xC0)) (length bs) k) (ap (λ (n : ℕ). Ok (Some n)) e)
 
 -- a number of at most four bytes
 pub four_bytes : (n v : ℕ) → n ≤ 4 → v < 256 ^ n → v < 2 ^ 32
@@ -58,15 +39,11 @@ four_bytes n v h l = lt_of_lt_of_le l (pow-le-pow_right {n = 256} (lit< tt) {i =
 -- ---- leaf_on
 
 module _ (bs : List ℕ) (n r : ℕ) where
-  pub leaf_on-none : r ≡ n → NoData ≡ leaf_on bs n r
+  pub leaf_on-none : r ≡ n → Ok None ≡ leaf_on bs n r
   unfolding leaf_on
   leaf_on-none h = rw (eq-eqb r n h)
 
-  pub leaf_on_low : (r ≡ n → ⊥) → r < n + 16 → BadImage ≡ leaf_on bs n r
-  unfolding leaf_on
-  leaf_on_low h l = rw (ne_eqb r n h, lt-ltb r (n + 16) l)
-
-  pub leaf_on-entry : (r ≡ n → ⊥) → n + 16 ≤ r → (a : Looked) → a ≡ entry_on bs (5 * n + r) → a ≡ leaf_on bs n r
+  pub leaf_on-entry : (r ≡ n → ⊥) → n + 16 ≤ r → (a : Result (Option ℕ) Refusal) → a ≡ entry_on bs (5 * n + r) → a ≡ leaf_on bs n r
   unfolding leaf_on
   leaf_on-entry h l a e = rw (ne_eqb r n h, le-ltb r (n + 16) l) e
 
@@ -101,6 +78,22 @@ pub follow_on_end : (bs : List ℕ) (n node left word : ℕ) → left ≡ 0 → 
 unfolding bits_of
 follow_on_end bs n node left word e = rw e
 
+-- ---- words_bits
+
+pub length-address_bits : (w0 w1 w2 w3 : ℕ) → length (address_bits w0 w1 w2 w3) ≡ 128
+unfolding address_bits
+length-address_bits w0 w1 w2 w3 = simp (length-append, length-bits_of)
+
+-- four words are an address
+pub words_bits_four : (ws : List ℕ) → length ws ≡ 4 → words_bits ws ≡ address_bits (get_or ws 0 0) (get_or ws 1 0) (get_or ws 2 0) (get_or ws 3 0)
+unfolding address_bits
+words_bits_four (w0 ∷ w1 ∷ w2 ∷ w3 ∷ []) h = rw append-nil
+words_bits_four [] h = absurd (omega arith)
+words_bits_four (a ∷ []) h = absurd (omega arith)
+words_bits_four (a ∷ b ∷ []) h = absurd (omega arith)
+words_bits_four (a ∷ b ∷ c ∷ []) h = absurd (omega arith)
+words_bits_four (a ∷ b ∷ c ∷ d ∷ e ∷ ws) h = absurd (omega arith)
+
 -- ---- walk_on
 
 walk_on-follow_at : (b : Bool) (bs : List ℕ) (n r : ℕ) (a k : Bits) → ltb r n ≡ b
@@ -125,59 +118,35 @@ walk_on-bits bs n i m w k r e =
     let x : Bool = odd (w / 2 ^ m) in
     rw e (walk_on-follow_at (ltb (record_in bs i x) n) bs n (record_in bs i x) (bits_of m w) k refl (walk_on-follow bs n (record_in bs i x) (bits_of m w) k))
 
-module _ (bs : List ℕ) (n i w : ℕ) (k : Bits) (r : ℕ) (e : r ≡ follow_on bs n i (bits_of 32 w)) where
-  pub walk_on-stop : n ≤ r → leaf_on bs n r ≡ walk_on bs n i (bits_of 32 w ++ k)
-  walk_on-stop h = sym (walk_on-bits bs n i 31 w k r e ∙ rw (le-ltb r n h))
+-- by one word more
+module _ (bs : List ℕ) (n i j : ℕ) (ws : List ℕ) (some : j < length ws) (r : ℕ) (e : r ≡ follow_on bs n i (bits_of 32 (get_or ws j 0))) where
+  pub walk_on-stop : n ≤ r → leaf_on bs n r ≡ walk_on bs n i (words_bits (drop j ws))
+  walk_on-stop h = rw (drop-cons ws j 0 some) (sym (walk_on-bits bs n i 31 (get_or ws j 0) (words_bits (drop (suc j) ws)) r e ∙ rw (le-ltb r n h)))
 
-  pub walk_on_on : r < n → walk_on bs n r k ≡ walk_on bs n i (bits_of 32 w ++ k)
-  walk_on_on h = sym (walk_on-bits bs n i 31 w k r e ∙ rw (lt-ltb r n h))
+  pub walk_on_next : r < n → walk_on bs n r (words_bits (drop (j + 1) ws)) ≡ walk_on bs n i (words_bits (drop j ws))
+  walk_on_next h =
+      rw (add-one j, drop-cons ws j 0 some)
+      (sym (walk_on-bits bs n i 31 (get_or ws j 0) (words_bits (drop (suc j) ws)) r e ∙ rw (lt-ltb r n h)))
 
--- the answer of a walk that stops in each of the four words, or in none
-module _ (bs : List ℕ) (n w0 w1 w2 w3 a b c d : ℕ) (ha : a ≡ follow_on bs n 0 (bits_of 32 w0)) where
-  pub walk_on_first : n ≤ a → leaf_on bs n a ≡ walk_on bs n 0 (address_bits w0 w1 w2 w3)
-  unfolding address_bits
-  walk_on_first h = walk_on-stop bs n 0 w0 (bits_of 32 w1 ++ (bits_of 32 w2 ++ bits_of 32 w3)) a ha h
-
-  module _ (ka : a < n) (hb : b ≡ follow_on bs n a (bits_of 32 w1)) where
-    past_first : walk_on bs n a (bits_of 32 w1 ++ (bits_of 32 w2 ++ bits_of 32 w3)) ≡ walk_on bs n 0 (address_bits w0 w1 w2 w3)
-    unfolding address_bits
-    past_first = walk_on_on bs n 0 w0 (bits_of 32 w1 ++ (bits_of 32 w2 ++ bits_of 32 w3)) a ha ka
-
-    pub walk_on_second : n ≤ b → leaf_on bs n b ≡ walk_on bs n 0 (address_bits w0 w1 w2 w3)
-    walk_on_second h = walk_on-stop bs n a w1 (bits_of 32 w2 ++ bits_of 32 w3) b hb h ∙ past_first
-
-    module _ (kb : b < n) (hc : c ≡ follow_on bs n b (bits_of 32 w2)) where
-      past_second : walk_on bs n b (bits_of 32 w2 ++ bits_of 32 w3) ≡ walk_on bs n 0 (address_bits w0 w1 w2 w3)
-      past_second = walk_on_on bs n a w1 (bits_of 32 w2 ++ bits_of 32 w3) b hb kb ∙ past_first
-
-      pub walk_on-third : n ≤ c → leaf_on bs n c ≡ walk_on bs n 0 (address_bits w0 w1 w2 w3)
-      walk_on-third h = walk_on-stop bs n b w2 (bits_of 32 w3) c hc h ∙ past_second
-
-      module _ (kc : c < n) (hd : d ≡ follow_on bs n c (bits_of 32 w3)) where
-        past-third : walk_on bs n c (bits_of 32 w3 ++ []) ≡ walk_on bs n 0 (address_bits w0 w1 w2 w3)
-        past-third = ap (walk_on bs n c) (append-nil (bits_of 32 w3)) ∙ walk_on_on bs n b w2 (bits_of 32 w3) c hc kc ∙ past_second
-
-        pub walk_on-fourth : n ≤ d → leaf_on bs n d ≡ walk_on bs n 0 (address_bits w0 w1 w2 w3)
-        walk_on-fourth h = walk_on-stop bs n c w3 [] d hd h ∙ past-third
-
-        pub walk_on_past : d < n → BadImage ≡ walk_on bs n 0 (address_bits w0 w1 w2 w3)
-        walk_on_past h = walk_on_on bs n c w3 [] d hd h ∙ past-third
+pub walk_on_end : (bs : List ℕ) (n i j : ℕ) (ws : List ℕ) → length ws ≤ j → Err BadImage ≡ walk_on bs n i (words_bits (drop j ws))
+walk_on_end bs n i j ws h =
+    let none : drop j ws ≡ [] = empty (drop j ws) (omega (arith, length-drop j ws)) in rw none
+  where
+    empty : (xs : List ℕ) → length xs ≡ 0 → xs ≡ []
+    empty [] e = refl
+    empty (x ∷ xs) e = absurd (omega arith)
 
 -- ---- look_on
 
-pub length-address_bits : (w0 w1 w2 w3 : ℕ) → length (address_bits w0 w1 w2 w3) ≡ 128
-unfolding address_bits
-length-address_bits w0 w1 w2 w3 = simp (length-append, length-bits_of)
-
-pub look_on-bad : (bs : List ℕ) (k : Bits) → count_on bs ≡ counted.Bad → BadImage ≡ look_on bs k
+pub look_on-bad : (bs : List ℕ) (k : Bits) → count_on bs ≡ None → Err BadImage ≡ look_on bs k
 unfolding look_on
 look_on-bad bs k e = rw e
 
-module _ (bs : List ℕ) (k : Bits) (n a e : ℕ) (h : count_on bs ≡ counted.Nodes n a e) where
-  pub look_on_short : length bs < 6 * n → BadImage ≡ look_on bs k
+module _ (bs : List ℕ) (k : Bits) (x : Nodes) (h : count_on bs ≡ Some x) where
+  pub look_on_short : length bs < 6 * x.count → Err BadImage ≡ look_on bs k
   unfolding look_on
-  look_on_short l = rw (h, lt-leb (6 * n) (length bs) l)
+  look_on_short l = rw (h, lt-leb (6 * x.count) (length bs) l)
 
-  pub look_on-walk : 6 * n ≤ length bs → walk_on bs n 0 k ≡ look_on bs k
+  pub look_on-walk : 6 * x.count ≤ length bs → walk_on bs x.count 0 k ≡ look_on bs k
   unfolding look_on
-  look_on-walk l = rw (h, le-leb (6 * n) (length bs) l)
+  look_on-walk l = rw (h, le-leb (6 * x.count) (length bs) l)

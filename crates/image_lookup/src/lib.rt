@@ -5,115 +5,106 @@
 
 #![tactic(auto)]
 
-ghost use Rattle.std.specs.Prelude.{◌+◌, ◌*◌, ◌≤◌, ◌≡◌, length};
+ghost use Rattle.std.specs.Prelude.{◌+◌, ◌*◌, ◌≤◌, ◌≡◌, length, slice_index};
 ghost use Rattle.bits.specs.Numbers.{bits_of};
 ghost use Rattle.image_lookup.specs.Looking.{entry_on, leaf_on, walk_on, address_bits, LookImage};
-ghost use Rattle.image_lookup.specs.Following.{follow_on};
+ghost use Rattle.image_lookup.specs.Following.{words_bits, follow_on};
 
-use metadata::Counted;
+use refusals::Refusal;
 
-// The answer: a zone number, no data there, or bytes that no image has.
+// The zone number of an address of four words, the highest bits first, or no data; or BadImage.
+pub fn look(bytes: &[u8], key: [u32; 4]) -> Result<Option<u32>, Refusal>
+    ensures { LookImage bytes.now (address_bits (slice_index key 0) (slice_index key 1) (slice_index key 2) (slice_index key 3)) result }
+{
+    let Some(x) = metadata::count(bytes) else {
+        return Err(Refusal::BadImage);
+    };
+    if bytes.len() < 6 * x.count as usize {
+        return Err(Refusal::BadImage);
+    }
+    let tree = Tree {
+        bytes,
+        nodes: x.count,
+    };
+    tree.walk(key)
+}
+
+// The bytes of an image, and how many nodes stand at their start.
 #[derive(Clone, Copy)]
-pub enum Looked {
-    Zone(u32),
-    NoData,
-    BadImage,
+struct Tree<'a> {
+    bytes: &'a [u8],
+    nodes: u32,
+    ghost top: { 6 ≤ length bytes.now },
+    ghost fits: { 6 * nodes ≤ length bytes.now },
 }
 
-// The zone number of an address of four words, the highest bits first, or no data, or BadImage (9).
-pub fn look(bytes: &[u8], w0: u32, w1: u32, w2: u32, w3: u32) -> Looked
-    ensures { LookImage bytes.now (address_bits w0 w1 w2 w3) result }
-{
-    match metadata::count(bytes) {
-        Counted::Bad => Looked::BadImage,
-        Counted::Nodes(n, _, _) => {
-            let tree = 6 * n as usize;
-            if bytes.len() < tree {
-                return Looked::BadImage;
+impl Tree<'_> {
+    // The zone number of an address, or no data; or BadImage. At most 128 records are read.
+    fn walk(&self, words: [u32; 4]) -> Result<Option<u32>, Refusal>
+        ensures { result ≡ walk_on self.now.bytes.now self.now.nodes 0 (words_bits words) }
+    {
+        let mut node = 0;
+        for word in words {
+            node = self.follow(node, word);
+            if self.nodes <= node {
+                return self.leaf(node);
             }
-            walk(bytes, n, w0, w1, w2, w3)
         }
+        Err(Refusal::BadImage)
     }
-}
 
-// The same where the node count is known, at most 128 records read.
-fn walk(bytes: &[u8], n: u32, w0: u32, w1: u32, w2: u32, w3: u32) -> Looked
-    requires { (6 ≤ length bytes.now) × (6 * n ≤ length bytes.now) }
-    ensures { result ≡ walk_on bytes.now n 0 (address_bits w0 w1 w2 w3) }
-{
-    let a = follow(bytes, n, 0, w0);
-    if n <= a {
-        return leaf(bytes, n, a);
-    }
-    let b = follow(bytes, n, a, w1);
-    if n <= b {
-        return leaf(bytes, n, b);
-    }
-    let c = follow(bytes, n, b, w2);
-    if n <= c {
-        return leaf(bytes, n, c);
-    }
-    let d = follow(bytes, n, c, w3);
-    if n <= d {
-        return leaf(bytes, n, d);
-    }
-    Looked::BadImage
-}
-
-// From a node by the bits of one word, the highest first: the first record that is no node, or the
-// node where the bits run out.
-fn follow(bytes: &[u8], n: u32, from: u32, word: u32) -> u32
-    requires { (6 * from + 6 ≤ length bytes.now) × (6 * n ≤ length bytes.now) }
-    ensures { result ≡ follow_on bytes.now n from (bits_of 32 word) }
-{
-    let mut node = from;
-    let mut left: u32 = 32;
-    while 0 < left {
-        left -= 1;
-        let bit = (word >> left) % 2;
-        let r = metadata::record_at(bytes, 6 * node as usize + 3 * bit as usize);
-        if n <= r {
-            return r;
+    // From a node by the bits of one word, the highest first: the first record that is no node, or the
+    // node where the bits run out.
+    fn follow(&self, from: u32, word: u32) -> u32
+        requires { 6 * from + 6 ≤ length self.now.bytes.now }
+        ensures { result ≡ follow_on self.now.bytes.now self.now.nodes from (bits_of 32 word) }
+    {
+        let mut node = from;
+        for i in (0..32u32).rev() {
+            let bit = (word >> i) % 2;
+            let r = metadata::record_at(self.bytes, 6 * node as usize + 3 * bit as usize);
+            if self.nodes <= r {
+                return r;
+            }
+            node = r;
         }
-        node = r;
+        node
     }
-    node
-}
 
-// What a record answers that is no node: no data, or the zone number that it leads to.
-fn leaf(bytes: &[u8], n: u32, r: u32) -> Looked
-    ensures { result ≡ leaf_on bytes.now n r }
-{
-    if r == n {
-        return Looked::NoData;
+    // What a record answers that is no node: no data, or the zone number that it leads to.
+    #[tactic(auto, unfolding(crate::specs::Looking::leaf_on))]
+    fn leaf(&self, r: u32) -> Result<Option<u32>, Refusal>
+        ensures { result ≡ leaf_on self.now.bytes.now self.now.nodes r }
+    {
+        if r == self.nodes {
+            return Ok(None);
+        }
+        let nodes = self.nodes as usize;
+        let record = r as usize;
+        if record < nodes + 16 {
+            return Err(Refusal::BadImage);
+        }
+        entry(self.bytes, 5 * nodes + record)
     }
-    let nodes = n as usize;
-    let record = r as usize;
-    if record < nodes + 16 {
-        return Looked::BadImage;
-    }
-    entry(bytes, 5 * nodes + record)
 }
 
 // The data entry at a byte: one byte C0 + size, then the number.
-fn entry(bytes: &[u8], at: usize) -> Looked
+// Stays beside the checker's `read`, which also tests for the shortest form and gives the next entry's start:
+// a lookup needs neither, and is safe on any bytes.
+#[tactic(auto, unfolding(crate::specs::Looking::entry_on))]
+fn entry(bytes: &[u8], at: usize) -> Result<Option<u32>, Refusal>
     ensures { result ≡ entry_on bytes.now at }
 {
     if bytes.len() <= at {
-        return Looked::BadImage;
+        return Err(Refusal::BadImage);
     }
-    let control = bytes[at] as usize;
-    if control < 0xC0 {
-        return Looked::BadImage;
-    }
-    if 0xC4 < control {
-        return Looked::BadImage;
-    }
-    let size = control - 0xC0;
+    let size = match bytes[at] {
+        control @ 0xC0..=0xC4 => (control - 0xC0) as usize,
+        _ => return Err(Refusal::BadImage),
+    };
     if bytes.len() - at <= size {
-        return Looked::BadImage;
+        return Err(Refusal::BadImage);
     }
     let number = metadata::number_at(bytes, at + 1, size);
-    let zone = number as u32;
-    Looked::Zone(zone)
+    Ok(Some(number as u32))
 }

@@ -5,8 +5,6 @@
 
 #![tactic(auto)]
 
-use image_lookup::Looked;
-use metadata::Framed;
 use std::io;
 
 const TOP: u32 = 0x8000_0000;
@@ -130,46 +128,29 @@ fn ends(rt: &impl Print) -> io::Result<()> {
 }
 
 fn cut(rt: &impl Print, text: &str, image: &[u8], n: usize) -> io::Result<()> {
-    if n <= image.len() {
-        look(rt, text, &image[0..n], 0, 0)?;
+    match image.get(..n) {
+        Some(part) => look(rt, text, part, 0, 0),
+        None => Ok(()),
     }
-    Ok(())
 }
 
 // ---- one call, and a line
 
 // The address of a first word, the others all w.
 fn look(rt: &impl Print, text: &str, image: &[u8], first: u32, w: u32) -> io::Result<()> {
-    say(rt, "look, ")?;
-    say(rt, text)?;
-    match image_lookup::look(image, first, w, w, w) {
-        Looked::Zone(z) => {
-            say(rt, ": zone ")?;
-            rt.print(z)?;
-            say(rt, "\n")
-        }
-        Looked::NoData => say(rt, ": no data\n"),
-        Looked::BadImage => say(rt, ": BadImage\n"),
+    match image_lookup::look(image, [first, w, w, w]) {
+        Ok(Some(zone)) => println!(rt; "look, {text}: zone {zone}"),
+        Ok(None) => println!(rt; "look, {text}: no data"),
+        Err(e) => println!(rt; "look, {text}: {e}"),
     }
 }
 
 fn framed(rt: &impl Print, text: &str, image: &[u8]) -> io::Result<()> {
-    say(rt, "end of ")?;
-    say(rt, text)?;
-    match metadata::frame(image) {
-        Framed::Frame(n, at, epoch) => {
-            say(rt, ": nodes ")?;
-            rt.print(n)?;
-            say(rt, ", marker at ")?;
-            rt.print(at)?;
-            say(rt, ", epoch ")?;
-            rt.print(epoch)?;
-            say(rt, "\n")
-        }
-        Framed::Bad => say(rt, ": none\n"),
-    }
-}
-
-fn say(rt: &impl Print, text: &str) -> io::Result<()> {
-    rt.print(text)
+    let Some(x) = metadata::frame(image) else {
+        return println!(rt; "end of {text}: none");
+    };
+    println!(rt;
+        "end of {text}: nodes {}, marker at {}, epoch {}",
+        x.nodes, x.start, x.epoch
+    )
 }

@@ -12,6 +12,7 @@ use mathlib.Core.Option.{none, some}
 use lib.Dec.{T, leb, ltb, le→leb, lt→ltb}
 use lib.ListN.{length, take, drop, replicate}
 use lib.Seq.{drop_at, length-take-le}
+use Rattle.std.specs.Prelude.{Option, Some, None}
 use Rattle.bits.specs.Lists.{all}
 use Rattle.bits.specs.Bits.{Bits}
 use Rattle.bits.proofs.ListsLaws.{T_true, true-T, and_left, and_right, mem-all}
@@ -23,8 +24,7 @@ use Rattle.image.proofs.PreorderLaws.{length-refs}
 use Rattle.image.proofs.LeavesLaws.{leaves, forks_of-leaves, ascending-leaves, within-leaves}
 use Rattle.image.proofs.WholeLaws.{depth}
 use Rattle.metadata.specs.Frames.{tail_of, frame_on}
-use Rattle.metadata.specs.declared.Framed.{Framed}
-use Rattle.metadata.specs.declared.Framed.TheVariants as framed
+use Rattle.metadata.specs.declared.Tail.{Tail}
 use Rattle.metadata.proofs.FramesLaws.{EndsAs, frame_on-frame}
 use Rattle.image_verify.specs.Verifying.{zeros_on, entries_on, tree_on, exact_on, verify_frame, verify_on}
 use Rattle.image_verify.proofs.StandsLaws.{Zoned}
@@ -108,8 +108,11 @@ module _ (bs : List ℕ) (small : T (all (λ b. ltb b 256) bs)) where
       } in
       (leaves [] w.trie, (epoch, image-found bs small n end epoch zs w.trie e p))
 
-  accepted : (f : Framed) → frame_on bs ≡ f → T (verify_frame bs f) → SomeImage bs
-  accepted (framed.Frame n end epoch) e h =
+  accepted : (f : Option Tail) → frame_on bs ≡ f → T (verify_frame bs f) → SomeImage bs
+  accepted (Some tail) e h =
+      let n : ℕ = tail.nodes in
+      let end : ℕ = tail.start in
+      let epoch : ℕ = tail.epoch in
       let x : Bool = exact_on bs n end in
       let t : Bool = tree_on bs n (end - (6 * n + 16)) in
       let d : Bool = entries_on (length bs) bs (6 * n + 16) end 0 in
@@ -120,7 +123,7 @@ module _ (bs : List ℕ) (small : T (all (λ b. ltb b 256) bs)) where
       let ends = frame_on-frame bs n end epoch small e in
       let w = entries_on-found bs end small ends.within (length bs) (6 * n + 16) 0 (and_left d (t && x) b) in
       accepted-tree n end epoch w.0 ends (T_true z (and_left z (d && (t && x)) a)) w.1 (and_left t x c) (and_right t x c)
-  accepted framed.Bad e h = elim h [ ]
+  accepted None e h = elim h [ ]
 
   pub verify_on_yes : verify_on bs ≡ true → (m : Map) × ((epoch : ℕ) × IsImage size24 bs m epoch)
   unfolding verify_on

@@ -1,49 +1,50 @@
 -- The laws of the whole check: one for each way out of its functions. No contract cites this file.
 -- Assumes nothing.
-use Prim.Native.Nat.{ℕ, suc, ◌+◌, ◌-◌, ◌*◌, ◌≤◌, ◌<◌}
+use Prim.Native.Nat.{ℕ, zero, suc, ◌+◌, ◌-◌, ◌*◌, ◌≤◌}
+use native.Mathlib.Numerals.{add-one}
 use native.Mathlib.Omega.{arith}
 use mathlib.Core.Path.{◌≡◌, refl, sym, ap, subst, ◌∙◌}
 use mathlib.Core.Logic.{◌⊎◌, inl, inr}
-use mathlib.Core.Bool.{Bool, true, false, ◌&&◌, ◌||◌, not, cond}
+use mathlib.Core.Bool.{Bool, true, false, ◌&&◌, ◌||◌, cond}
 use mathlib.Core.List.{List}
 use lib.Dec.{leb, ltb, eqb}
-use lib.ListN.{length, drop}
-use borrow.Author.Tests.{le-leb, lt-leb, le-ltb, not-true, not-false}
-use Rattle.metadata.specs.Frames.{number_at, tail_of, count_on, same_bytes, frame_of, frame_on}
-use Rattle.metadata.specs.declared.Counted.{Counted}
-use Rattle.metadata.specs.declared.Counted.TheVariants as counted
-use Rattle.metadata.specs.declared.Framed.{Framed}
-use Rattle.metadata.specs.declared.Framed.TheVariants as framed
+use lib.ListN.{length, take, drop, get_or}
+use lib.Seq.{drop-cons}
+use borrow.Author.Tests.{le-ltb}
+use Rattle.std.specs.Prelude.{Option, Some, None, bytes_eq}
+use Rattle.metadata.specs.Frames.{number_at, tail_of, count_on, frame_of, frame_on}
+use Rattle.metadata.specs.declared.Nodes.{Nodes}
+use Rattle.metadata.specs.declared.Tail.{Tail}
+use Rattle.std.specs.List.{list_all}
 use Rattle.image_verify.specs.Verifying.{record_no, side_on, below_on, then_on, whole, tree_on, exact_on, entries_on, zeros_on, verify_frame, verify_on}
 use Rattle.image_verify.specs.declared.Numbered.{Numbered}
-use Rattle.image_verify.specs.declared.Numbered.TheVariants.{To, Bad}
-use Rattle.image_verify.specs.declared.Verified.TheVariants.{Yes, BadImage}
+use Rattle.image_verify.proofs.Forms.{To, Ends}
 
 -- ---- tree_on
 
 -- one law for each way out, where x is what the nodes from the top down come to
-module _ (bs : List ℕ) (n d : ℕ) (x : Numbered) (q : (f : ℕ) → f ≡ 128 → x ≡ below_on f bs n d 0) where
+module _ (bs : List ℕ) (n d : ℕ) (x : Option Numbered) (q : (f : ℕ) → f ≡ 128 → x ≡ below_on f bs n d 0) where
   tree_on_is : (f : ℕ) → f ≡ 128 → whole n x ≡ tree_on bs n d
   unfolding tree_on
   tree_on_is f e = ap (whole n) (q f e) ∙ ap (λ (m : ℕ). whole n (below_on m bs n d 0)) e
 
-  pub tree_on-bad : x ≡ Bad → false ≡ tree_on bs n d
+  pub tree_on-bad : x ≡ None → false ≡ tree_on bs n d
   tree_on-bad z = ap (whole n) (sym z) ∙ tree_on_is 128 refl
 
   pub tree_on_to : (last : ℕ) (b : Bool) → x ≡ To last b → eqb last n ≡ tree_on bs n d
   tree_on_to last b z = ap (whole n) (sym z) ∙ tree_on_is 128 refl
 
 -- where there is no node a side is no node, so that the numbers do not come to 0
-side_on-still : (go : ℕ → Numbered) (d next r : ℕ) → (side_on go 0 d next r ≡ Bad) ⊎ ((b : Bool) × (side_on go 0 d next r ≡ To next b))
+side_on-still : (go : ℕ → Option Numbered) (d next r : ℕ) → (side_on go 0 d next r ≡ None) ⊎ ((b : Bool) × (side_on go 0 d next r ≡ To next b))
 unfolding side_on
 side_on-still go d next r = rw (le-ltb r 0 (omega arith)) (by (eqb r 0) (leb (0 + 16) r && ltb r (0 + 16 + d)))
   where
-    by : (p q : Bool) → (cond p (To next false) (cond q (To next true) Bad) ≡ Bad) ⊎ ((b : Bool) × (cond p (To next false) (cond q (To next true) Bad) ≡ To next b))
+    by : (p q : Bool) → (cond p (To next false) (cond q (To next true) None) ≡ None) ⊎ ((b : Bool) × (cond p (To next false) (cond q (To next true) None) ≡ To next b))
     by true q = inr (false, refl)
     by false true = inr (true, refl)
     by false false = inl refl
 
-still_then : (x : Numbered) (k : ℕ → Bool → Numbered) → (x ≡ Bad) ⊎ ((b : Bool) × (x ≡ To 1 b)) → ((b : Bool) → whole 0 (k 1 b) ≡ false)
+still_then : (x : Option Numbered) (k : ℕ → Bool → Option Numbered) → (x ≡ None) ⊎ ((b : Bool) × (x ≡ To 1 b)) → ((b : Bool) → whole 0 (k 1 b) ≡ false)
     → whole 0 (then_on x k) ≡ false
 still_then x k (inl e) h = rw e
 still_then x k (inr w) h = rw w.1 (h w.0)
@@ -59,85 +60,61 @@ tree_on-none bs n d e = subst (λ (m : ℕ). false ≡ tree_on bs m d) (sym e) (
 
 -- ---- verify_frame
 
-second-fails : (a b c : Bool) → b ≡ false → false ≡ (a && (b && c))
-second-fails true b c e = rw e
-second-fails false b c e = refl
+pub and_yes : {u v : Bool} (b : Bool) → u ≡ true → v ≡ b → v ≡ (u && b)
+and_yes b e q = rw e q
 
-third-fails : (a b c d : Bool) → c ≡ false → false ≡ (a && (b && (c && d)))
-third-fails true b c d e = second-fails b c d e
-third-fails false b c d e = refl
+pub and_no : {u v : Bool} (b : Bool) → u ≡ false → v ≡ u → v ≡ (u && b)
+and_no b e q = rw e (q ∙ e)
 
-fourth-fails : (a b c d x : Bool) → d ≡ false → false ≡ (a && (b && (c && (d && x))))
-fourth-fails true b c d x e = third-fails b c d x e
-fourth-fails false b c d x e = refl
+and_four : (a b c d x : Bool) → ((((a && b) && c) && d) && x) ≡ (a && (b && (c && (d && x))))
+and_four true true true d x = refl
+and_four true true false d x = refl
+and_four true false c d x = refl
+and_four false b c d x = refl
 
-all_but_last : (a b c d x : Bool) → a ≡ true → b ≡ true → c ≡ true → d ≡ true → x ≡ (a && (b && (c && (d && x))))
-all_but_last a b c d x ha hb hc hd = rw (ha, hb, hc, hd)
+-- the five tests, each with those before it
+pub verify_frame-tests : (bs : List ℕ) (tail : Tail) (z e t x : Bool) → z ≡ (leb (6 * tail.nodes + 16) tail.start && zeros_on 16 bs (6 * tail.nodes))
+    → e ≡ (z && entries_on (length bs) bs (6 * tail.nodes + 16) tail.start 0) → t ≡ (e && tree_on bs tail.nodes (tail.start - (6 * tail.nodes + 16)))
+    → x ≡ (t && exact_on bs tail.nodes tail.start) → x ≡ verify_frame bs (Some tail)
+verify_frame-tests bs tail z e t x hz he ht hx =
+    hx ∙ rw (ht, he, hz)
+    (and_four (leb (6 * tail.nodes + 16) tail.start) (zeros_on 16 bs (6 * tail.nodes)) (entries_on (length bs) bs (6 * tail.nodes + 16) tail.start 0)
+    (tree_on bs tail.nodes (tail.start - (6 * tail.nodes + 16))) (exact_on bs tail.nodes tail.start))
 
--- one law for each way out, where z, e, t and x are what the four tests say
-module _ (bs : List ℕ) (n end : ℕ) where
-  abbrev start : ℕ
-  start = 6 * n + 16
+zeros_on_all : (bs : List ℕ) (k at : ℕ) → at + k ≤ length bs → list_all (λ b. eqb b 0) (take k (drop at bs)) ≡ zeros_on k bs at
+zeros_on_all bs zero at h = refl
+zeros_on_all bs (suc k) at h = rw (drop-cons bs at 0 (omega arith), add-one at) (ap (λ (b : Bool). eqb (get_or bs at 0) 0 && b) (rw (add-one at) at (zeros_on_all bs k (at + 1) (omega arith))))
 
-  abbrev Parts : Bool → Type 0
-  Parts r = r ≡ verify_frame bs (framed.Frame n end 0)
-
-  pub parts_short : end < start → Parts false
-  parts_short h = rw (lt-leb start end h)
-
-  module _ (room : start ≤ end) (z : Bool) (ez : z ≡ zeros_on 16 bs (6 * n)) where
-    pub parts-gap : not z ≡ true → Parts false
-    parts-gap h = second-fails (leb start end) (zeros_on 16 bs (6 * n))
-        (entries_on (length bs) bs start end 0 && (tree_on bs n (end - start) && exact_on bs n end)) (sym ez ∙ not-true z h)
-
-    module _ (hz : not z ≡ false) (e : Bool) (ee : e ≡ entries_on (length bs) bs start end 0) where
-      pub parts-data : not e ≡ true → Parts false
-      parts-data h =
-          third-fails (leb start end) (zeros_on 16 bs (6 * n)) (entries_on (length bs) bs start end 0) (tree_on bs n (end - start) && exact_on bs n end)
-          (sym ee ∙ not-true e h)
-
-      module _ (he : not e ≡ false) (t : Bool) (et : t ≡ tree_on bs n (end - start)) where
-        pub parts-tree : not t ≡ true → Parts false
-        parts-tree h =
-            fourth-fails (leb start end) (zeros_on 16 bs (6 * n)) (entries_on (length bs) bs start end 0) (tree_on bs n (end - start)) (exact_on bs n end)
-            (sym et ∙ not-true t h)
-
-        pub parts_exact : not t ≡ false → (x : Bool) → x ≡ exact_on bs n end → Parts x
-        parts_exact h x ex =
-            ex ∙ all_but_last (leb start end) (zeros_on 16 bs (6 * n)) (entries_on (length bs) bs start end 0) (tree_on bs n (end - start)) (exact_on bs n end)
-            (le-leb start end room) (sym ez ∙ not-false z hz) (sym ee ∙ not-false e he) (sym et ∙ not-false t h)
+-- the 16 bytes after the tree
+pub zeros_part : (bs : List ℕ) (at : ℕ) (z : Bool) → at + 16 ≤ length bs → z ≡ list_all (λ b. eqb b 0) (take (at + 16 - at) (drop at bs)) → z ≡ zeros_on 16 bs at
+zeros_part bs at z h e =
+    let k : at + 16 - at ≡ 16 = omega arith in
+    e ∙ ap (λ (n : ℕ). list_all (λ b. eqb b 0) (take n (drop at bs))) k ∙ zeros_on_all bs 16 at h
 
 -- ---- verify_on
 
-frame-when : (b : Bool) (n m n' end : ℕ) (epoch epoch' : ℕ) → cond b (framed.Frame n m epoch) framed.Bad ≡ framed.Frame n' end epoch' → m ≡ end
-frame-when true n m n' end epoch epoch' e = cc
-frame-when false n m n' end epoch epoch' e = cc
+frame_of-inside : (bs : List ℕ) (c : Option Nodes) (t : Tail) → frame_of bs c ≡ Some t → t.start ≤ length bs
+frame_of-inside bs None t e = cc
+frame_of-inside bs (Some x) t e = at (bytes_eq (drop start bs) (tail_of x.count epoch)) e
+  where
+    start : ℕ
+    start = length bs - (154 + x.width + x.epoch_width)
 
-frame_of-inside : (bs : List ℕ) (c : Counted) (n end epoch : ℕ) → frame_of bs c ≡ framed.Frame n end epoch → end ≤ length bs
-frame_of-inside bs counted.Bad n end epoch e = let z : ◌≡◌ {A = ℕ} 0 1 = cc in absurd (omega arith)
-frame_of-inside bs (counted.Nodes m a k) n end epoch e =
-    let q = frame-when (same_bytes (drop (length bs - (154 + a + k)) bs) (tail_of m (number_at bs (length bs - k) k))) m (length bs - (154 + a + k)) n end
-    (number_at bs (length bs - k) k) epoch e in
-    omega (arith, q)
+    epoch : ℕ
+    epoch = number_at bs (length bs - x.epoch_width) x.epoch_width
 
--- one law for each way out, where x is what the end of the bytes says
-module _ (bs : List ℕ) (x : Framed) (e : x ≡ frame_on bs) where
-  pub verify_on-bad : x ≡ framed.Bad → BadImage ≡ cond (verify_on bs) Yes BadImage
-  unfolding verify_on
-  verify_on-bad q = rw (← e, q)
+    at : (b : Bool) → cond b (Ends x.count start epoch) None ≡ Some t → t.start ≤ length bs
+    at true e = let q : start ≡ t.start = cc in omega arith
+    at false e = cc
 
-  module _ (n end epoch : ℕ) (q : x ≡ framed.Frame n end epoch) where
-    pub frame-inside : end ≤ length bs
-    unfolding frame_on
-    frame-inside = frame_of-inside bs (count_on bs) n end epoch (sym e ∙ q)
+pub frame-inside : (bs : List ℕ) (t : Tail) → frame_on bs ≡ Some t → t.start ≤ length bs
+unfolding frame_on
+frame-inside bs t = frame_of-inside bs (count_on bs) t
 
-    module _ (b : Bool) (h : b ≡ verify_frame bs (framed.Frame n end 0)) where
-      verify_on_parts : verify_on bs ≡ b
-      unfolding verify_on
-      verify_on_parts = ap (verify_frame bs) (sym e ∙ q) ∙ sym h
+pub verify_on-bad : (bs : List ℕ) → frame_on bs ≡ None → verify_on bs ≡ false
+unfolding verify_on
+verify_on-bad bs e = rw e
 
-      pub verify_on_accepted : b ≡ true → Yes ≡ cond (verify_on bs) Yes BadImage
-      verify_on_accepted t = rw (verify_on_parts, t)
-
-      pub verify_on-refused : b ≡ false → BadImage ≡ cond (verify_on bs) Yes BadImage
-      verify_on-refused t = rw (verify_on_parts, t)
+pub verify_on_tail : (bs : List ℕ) (t : Tail) → frame_on bs ≡ Some t → verify_on bs ≡ verify_frame bs (Some t)
+unfolding verify_on
+verify_on_tail bs t e = rw e

@@ -13,6 +13,7 @@ use lib.Dec.{T, leb, ltb, eqb, leb→le, le→leb, ltb→lt, lt→ltb, eqb→eq}
 use lib.ListN.{length, drop, length-append, length-drop}
 use lib.Seq.{drop-drop, drop-append_seam}
 use borrow.Author.Tests.{le-leb, lt-leb, eq-eqb, ne_eqb, eqb-true, eqb-false}
+use Rattle.std.specs.Prelude.{Option, Some, None}
 use Rattle.bits.specs.Lists.{all}
 use Rattle.bits.proofs.ListsLaws.{T_true, and_left, and_right, and_both, all_imp, all_mem}
 use Rattle.image.specs.Bytes.{uint32}
@@ -20,9 +21,9 @@ use Rattle.image.specs.Image.{data_of, offset}
 use Rattle.image.specs.Ascending.{ascending_numbers}
 use Rattle.image.proofs.ZonesLaws.{one_byte}
 use Rattle.image_verify.specs.Verifying.{read_on, entries_from, entries_on, starts_at}
-use Rattle.image_verify.specs.declared.Read.{Read}
-use Rattle.image_verify.specs.declared.Read.TheVariants as read
+use Rattle.image_verify.specs.declared.Entry.{Entry}
 use Rattle.image_verify.proofs.ReadLaws.{read_on-entry, Entered, read_on-entered}
+use Rattle.image_verify.proofs.Forms.{Reads}
 
 pub record Entries (bs : List ℕ) (at end : ℕ) (zs : List ℕ) : Type 0 where
   pub bytes : drop at bs ≡ data_of zs ++ drop end bs
@@ -55,7 +56,7 @@ module _ (bs : List ℕ) (end : ℕ) where
     fit = λ y i. h.fit y (Memᴰ.tail i);
   }
 
-  pub read_on-entries : (at z : ℕ) (zs : List ℕ) → Entries bs at end (z ∷ zs) → read_on bs at end ≡ read.Entry (at + length (uint32 z)) z
+  pub read_on-entries : (at z : ℕ) (zs : List ℕ) → Entries bs at end (z ∷ zs) → read_on bs at end ≡ Reads (at + length (uint32 z)) z
   unfolding data_of
   read_on-entries at z zs h =
       read_on-entry bs at end z (data_of zs ++ drop end bs) (h.fit z (Memᴰ.head refl)) (h.bytes ∙ append_assoc (uint32 z) (data_of zs) (drop end bs))
@@ -105,9 +106,11 @@ module _ (bs : List ℕ) (end : ℕ) where
   Found at low = (zs : List ℕ) × Entries bs at end zs × T (all (leb low) zs)
 
   module _ (small : T (all (λ b. ltb b 256) bs)) (inside : end ≤ length bs) where
-    found_from : (f at low : ℕ) (r : Read) → read_on bs at end ≡ r → ((next least : ℕ) → T (entries_on f bs next end least) → Found next least)
+    found_from : (f at low : ℕ) (r : Option Entry) → read_on bs at end ≡ r → ((next least : ℕ) → T (entries_on f bs next end least) → Found next least)
         → T (entries_from (λ next least. entries_on f bs next end least) low r) → Found at low
-    found_from f at low (read.Entry next z) e go h =
+    found_from f at low (Some x) e go h =
+        let next : ℕ = x.next in
+        let z : ℕ = x.zone in
         let w = go next (z + 1) (and_right (leb low z) (entries_on f bs next end (z + 1)) h) in
         let l = and_left (leb low z) (entries_on f bs next end (z + 1)) h in (
           z ∷ w.0,
@@ -115,7 +118,7 @@ module _ (bs : List ℕ) (end : ℕ) where
           and_both (leb low z) (all (leb low) w.0) l
               (all_imp (leb (z + 1)) (leb low) (λ x i. le→leb low x (omega (arith, leb→le low z l, leb→le (z + 1) x i))) w.0 w.2),
         )
-    found_from f at low read.Bad e go h = elim h [ ]
+    found_from f at low None e go h = elim h [ ]
 
     pub entries_on-found : (f at low : ℕ) → T (entries_on f bs at end low) → Found at low
     entries_on-found zero at low h = ([], entries_none at (eqb→eq at end h), tt)

@@ -22,7 +22,6 @@ use Rattle.image.proofs.TrieLaws.{trie_of, Within}
 use Rattle.image.proofs.PreorderLaws.{forks_of-refs, length-forks_of-size}
 use Rattle.image.proofs.WholeLaws.{Whole, keys_mem, whole-trie_of, depth-trie_of}
 use Rattle.metadata.specs.Frames.{tail_of, frame_on}
-use Rattle.metadata.specs.declared.Framed.TheVariants as framed
 use Rattle.metadata.proofs.FramesLaws.{frame_on-tail}
 use Rattle.image_verify.specs.Verifying.{verify_on}
 use Rattle.image_verify.proofs.StandsLaws.{Stands, Zoned, tree_on-stands}
@@ -31,6 +30,7 @@ use Rattle.image_verify.proofs.EntriesLaws.{Entries, length-entries, entries_on-
 use Rattle.image_verify.proofs.ExactLaws.{used_mem, exact_on-zones}
 use Rattle.image_verify.proofs.TreeBytesLaws.{drop_past, tree_bytes-stands}
 use Rattle.image_verify.proofs.PartsLaws.{Parts, zeros_on-zeros}
+use Rattle.image_verify.proofs.Forms.{Ends}
 
 -- ---- Zoned
 
@@ -50,7 +50,7 @@ zoned-zones_of (leaf _) g = elim g [ ]
 
 -- ---- verify_on
 
-verify_on_parts : (bs : List ℕ) (n end epoch : ℕ) (zs : List ℕ) (t : Trie) → frame_on bs ≡ framed.Frame n end epoch → Parts bs n end zs t → verify_on bs ≡ true
+verify_on_parts : (bs : List ℕ) (n end epoch : ℕ) (zs : List ℕ) (t : Trie) → frame_on bs ≡ Ends n end epoch → Parts bs n end zs t → verify_on bs ≡ true
 unfolding verify_on
 verify_on_parts bs n end epoch zs t f p =
     let ends : 6 * n + 16 + length (data_of zs) ≡ end = p.entries.ends in
@@ -145,7 +145,7 @@ module _ (bs : List ℕ) (m : Map) (epoch : ℕ) (is : IsImage size24 bs m epoch
     zoned = zoned-image;
   }
 
-  pub frame-image : frame_on bs ≡ framed.Frame n (length front) epoch
+  pub frame-image : frame_on bs ≡ Ends n (length front) epoch
   frame-image =
       rw front-tail
       (frame_on-tail front n epoch (omega (arith, length_front, length-forks_of_pos m)) (length-forks_of_pos m) (length-forks_of-fits size24 m is.records_fit) is.epoch_fits)

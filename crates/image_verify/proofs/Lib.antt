@@ -1,3 +1,4 @@
+pub mod Forms
 pub mod StandsLaws
 pub mod UsesLaws
 pub mod GrownLaws
@@ -9,7 +10,6 @@ pub mod PartsLaws
 pub mod ImageLaws
 pub mod AcceptedLaws
 pub mod PromiseLaws
-pub mod ReadingLaws
 pub mod NodesLaws
 pub mod StartsLaws
 pub mod StretchLaws

@@ -14,6 +14,7 @@ use lib.Dec.{T, leb, ltb, eqb, ltb→lt, lt→ltb, eqb→eq, lit<}
 use lib.ListN.{length, take, drop, get_or, length-take, length-drop, take-append-drop}
 use lib.Seq.{drop-cons, drop-drop, get_or-drop, take-append_seam}
 use borrow.Author.Tests.{lt-ltb, le-leb, ltb-true, leb-true, eqb-false}
+use Rattle.std.specs.Prelude.{None}
 use Rattle.bits.specs.Lists.{all}
 use Rattle.bits.proofs.ListsLaws.{T_true, true-T, or_right, or_cases}
 use Rattle.image.specs.Bytes.{bytes_of, without_zeros, short, uint32}
@@ -22,7 +23,7 @@ use Rattle.image.proofs.BytesLaws.{short-lowest, short-fits}
 use Rattle.metadata.specs.Frames.{value_of, number_at}
 use Rattle.metadata.proofs.ValueLaws.{value_of-lt, value_of_short, bytes_of-value_of, all-take-drop, number_at-lt}
 use Rattle.image_verify.specs.Verifying.{read_on}
-use Rattle.image_verify.specs.declared.Read.TheVariants as read
+use Rattle.image_verify.proofs.Forms.{Reads, reads_same}
 
 -- ---- numbers in shortest form
 
@@ -85,7 +86,7 @@ unfolding number_at
 number_at_short bs at z rest h d = rw (d, take-append_seam (short z) rest) (value_of_short z h)
 
 pub read_on-entry : (bs : List ℕ) (at end z : ℕ) (rest : List ℕ) → z < 2 ^ 32 → drop at bs ≡ uint32 z ++ rest → at + length (uint32 z) ≤ end
-    → read_on bs at end ≡ read.Entry (at + length (uint32 z)) z
+    → read_on bs at end ≡ Reads (at + length (uint32 z)) z
 unfolding read_on uint32
 read_on-entry bs at end z rest h d l =
     let k : ℕ = length (short z) in
@@ -103,7 +104,7 @@ pub record Entered (bs : List ℕ) (at end next z : ℕ) : Type 0 where
   pub ends : next ≡ at + length (uint32 z)
   pub within : next ≤ end
 
-never : (next z : ℕ) → read.Bad ≡ read.Entry next z → ⊥
+never : (next z : ℕ) → None ≡ Reads next z → ⊥
 never next z e = let f : ◌≡◌ {A = ℕ} 0 1 = cc in omega arith
 
 shortest-take : (k : ℕ) (cs : List ℕ) → (k ≡ 0) ⊎ (0 < get_or cs 0 0) → Shortest (take k cs)
@@ -145,7 +146,7 @@ module _ (bs : List ℕ) (at end : ℕ) (small : T (all (λ b. ltb b 256) bs)) (
   -- by the four tests
   read-tests : (next z : ℕ) (p q r s : Bool) → leb 0xC0 (get_or bs at 0) ≡ p → leb (get_or bs at 0) 0xC4 ≡ q → ltb (at + (get_or bs at 0 - 0xC0)) end ≡ r
       → (eqb (get_or bs at 0) 0xC0 || ltb 0 (get_or bs (at + 1) 0)) ≡ s
-      → cond (p && (q && (r && s))) (read.Entry (at + 1 + (get_or bs at 0 - 0xC0)) (number_at bs (at + 1) (get_or bs at 0 - 0xC0))) read.Bad ≡ read.Entry next z
+      → cond (p && (q && (r && s))) (Reads (at + 1 + (get_or bs at 0 - 0xC0)) (number_at bs (at + 1) (get_or bs at 0 - 0xC0))) None ≡ Reads next z
       → Entered bs at end next z
   read-tests next z false q r s hp hq hr hs v = absurd (never next z v)
   read-tests next z true false r s hp hq hr hs v = absurd (never next z v)
@@ -155,11 +156,10 @@ module _ (bs : List ℕ) (at end : ℕ) (small : T (all (λ b. ltb b 256) bs)) (
       let c : ℕ = get_or bs at 0 in
       let low : 0xC0 ≤ c = leb-true 0xC0 c hp in
       let high : c ≤ 0xC4 = leb-true c 0xC4 hq in
-      let en : at + 1 + (c - 0xC0) ≡ next = cc in
-      let ez : number_at bs (at + 1) (c - 0xC0) ≡ z = cc in
-      rw (← en, ← ez) (entered (c - 0xC0) (omega arith) (omega arith) (ltb-true (at + (c - 0xC0)) end hr) (head-tests c (get_or bs (at + 1) 0) low (true-T (eqb c 0xC0 || ltb 0 (get_or bs (at + 1) 0)) hs)))
+      let w = reads_same (at + 1 + (c - 0xC0)) (number_at bs (at + 1) (c - 0xC0)) next z v in
+      rw (← w.0, ← w.1) (entered (c - 0xC0) (omega arith) (omega arith) (ltb-true (at + (c - 0xC0)) end hr) (head-tests c (get_or bs (at + 1) 0) low (true-T (eqb c 0xC0 || ltb 0 (get_or bs (at + 1) 0)) hs)))
 
-  pub read_on-entered : (next z : ℕ) → read_on bs at end ≡ read.Entry next z → Entered bs at end next z
+  pub read_on-entered : (next z : ℕ) → read_on bs at end ≡ Reads next z → Entered bs at end next z
   unfolding read_on
   read_on-entered next z e =
       let c : ℕ = get_or bs at 0 in

@@ -15,6 +15,7 @@ use mathlib.Core.List.{List, Memᴰ}
 use mathlib.Core.Option.{none, some}
 use lib.ListN.{length}
 use borrow.Author.Tests.{lt-ltb, le-ltb, le-leb, eq-eqb, ne_eqb}
+use Rattle.std.specs.Prelude.{Option}
 use Rattle.bits.proofs.ListsLaws.{T_true}
 use Rattle.image.specs.Image.{data_of, offset, record_of}
 use Rattle.image.specs.Tries.{Trie, leaf, fork, size, ref}
@@ -22,7 +23,7 @@ use Rattle.image.proofs.ZonesLaws.{offset-lt}
 use Rattle.image.proofs.WholeLaws.{live, Solid, Whole, depth}
 use Rattle.image_verify.specs.Verifying.{record_no, side_on, below_on, whole, tree_on}
 use Rattle.image_verify.specs.declared.Numbered.{Numbered}
-use Rattle.image_verify.specs.declared.Numbered.TheVariants as numbered
+use Rattle.image_verify.proofs.Forms.{To}
 
 abbrev pub Stands : List ℕ → ℕ → List ℕ → ℕ → Trie → Type 0
 Stands bs n zs i (leaf o) = Unit {0}
@@ -46,13 +47,13 @@ inner (fork l r) g = (g.1, g.2)
 -- ---- side_on
 
 -- the walk from the node i on ends behind the part t, if that is one
-abbrev Goes : (ℕ → Numbered) → ℕ → Trie → Type 0
+abbrev Goes : (ℕ → Option Numbered) → ℕ → Trie → Type 0
 Goes go i (leaf o) = Unit {0}
-Goes go i (fork l r) = go i ≡ numbered.To (i + size (fork l r)) (live (fork l r))
+Goes go i (fork l r) = go i ≡ To (i + size (fork l r)) (live (fork l r))
 
-module _ (go : ℕ → Numbered) (n : ℕ) (zs : List ℕ) where
+module _ (go : ℕ → Option Numbered) (n : ℕ) (zs : List ℕ) where
   side_on-ref : (next : ℕ) (u : Trie) → next + size u ≤ n → Solid u → Zoned zs u → Goes go next u
-      → side_on go n (length (data_of zs)) next (record_of n zs (ref next u)) ≡ numbered.To (next + size u) (live u)
+      → side_on go n (length (data_of zs)) next (record_of n zs (ref next u)) ≡ To (next + size u) (live u)
   unfolding side_on
   side_on-ref next (leaf none) h g k e = rw (le-ltb n n (omega arith), eq-eqb n n refl, add-zero)
   side_on-ref next (leaf (some z)) h g k e =
@@ -75,7 +76,7 @@ module _ (bs : List ℕ) (n : ℕ) (zs : List ℕ) where
   below-stands f i (leaf o) d h g z s = tt
   below-stands zero i (fork l r) d h g z s = absurd (omega arith)
   below-stands (suc f) i (fork l r) d h g z s =
-      let go : ℕ → Numbered = λ j. below_on f bs n (length (data_of zs)) j in
+      let go : ℕ → Option Numbered = λ j. below_on f bs n (length (data_of zs)) j in
       rw (
         add-one i,
         s.0,
@@ -84,7 +85,7 @@ module _ (bs : List ℕ) (n : ℕ) (zs : List ℕ) where
         side_on-ref go n zs (suc i + size l) r (omega arith) g.1 z.1
             (below-stands f (suc i + size l) r (omega arith) (omega arith) (inner r g.1) z.1 s.3),
       )
-      (ap (λ (j : ℕ). numbered.To j (live l || live r)) (omega arith))
+      (ap (λ (j : ℕ). To j (live l || live r)) (omega arith))
 
 -- ---- tree_on
 

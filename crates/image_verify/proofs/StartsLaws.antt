@@ -10,12 +10,13 @@ use mathlib.Core.List.{List}
 use lib.Dec.{leb, ltb, eqb, ltb→lt}
 use lib.ListN.{length, get_or}
 use borrow.Author.Tests.{le-leb, lt-leb, eq-eqb, ne_eqb}
+use Rattle.std.specs.Prelude.{Option, Some, None}
 use Rattle.bits.proofs.ListsLaws.{true-T, and_left, and_right}
 use Rattle.metadata.specs.Frames.{number_at}
 use Rattle.image_verify.specs.Verifying.{read_on, entries_from, entries_on, starts_from, starts_at}
 use Rattle.image_verify.specs.Starts.{next_of}
-use Rattle.image_verify.specs.declared.Read.{Read}
-use Rattle.image_verify.specs.declared.Read.TheVariants.{Entry, Bad}
+use Rattle.image_verify.specs.declared.Entry.{Entry}
+use Rattle.image_verify.proofs.Forms.{Reads, reads_same}
 
 -- ---- the next entry's start
 
@@ -24,25 +25,25 @@ pub record Nearer (at end next : ℕ) : Type 0 where
   pub above : at < next
   pub inside : next ≤ end
 
-entry-when : (b : Bool) (n z next y : ℕ) → cond b (Entry n z) Bad ≡ Entry next y → (b ≡ true) × (n ≡ next)
-entry-when true n z next y e = (refl, cc)
-entry-when false n z next y e = let q : ◌≡◌ {A = ℕ} 0 1 = cc in absurd (omega arith)
+reads-when : (b : Bool) (n z next y : ℕ) → cond b (Reads n z) None ≡ Reads next y → (b ≡ true) × (n ≡ next)
+reads-when true n z next y e = (refl, (reads_same n z next y e).0)
+reads-when false n z next y e = let q : ◌≡◌ {A = ℕ} 0 1 = cc in absurd (omega arith)
 
-pub read_on-nearer : (bs : List ℕ) (at end next z : ℕ) → read_on bs at end ≡ Entry next z → Nearer at end next
+pub read_on-nearer : (bs : List ℕ) (at end next z : ℕ) → read_on bs at end ≡ Reads next z → Nearer at end next
 unfolding read_on
 read_on-nearer bs at end next z e =
     let b = get_or bs at 0 in
     let fit = ltb (at + (b - 192)) end && (eqb b 192 || ltb 0 (get_or bs (at + 1) 0)) in
-    let w = entry-when (leb 192 b && (leb b 196 && fit)) (at + 1 + (b - 192)) (number_at bs (at + 1) (b - 192)) next z e in
+    let w = reads-when (leb 192 b && (leb b 196 && fit)) (at + 1 + (b - 192)) (number_at bs (at + 1) (b - 192)) next z e in
     let k = and_right (leb b 196) fit (and_right (leb 192 b) (leb b 196 && fit) (true-T (leb 192 b && (leb b 196 && fit)) w.0)) in
     let l = ltb→lt (at + (b - 192)) end (and_left (ltb (at + (b - 192)) end) (eqb b 192 || ltb 0 (get_or bs (at + 1) 0)) k) in
     let n : at + 1 + (b - 192) ≡ next = w.1 in
     record { above = omega arith; inside = omega arith }
 
 module _ (bs : List ℕ) (at end : ℕ) (h : at < end) where
-  next_of-nearer_at : (x : Read) → read_on bs at end ≡ x → Nearer at end (next_of end x)
-  next_of-nearer_at Bad e = record { above = h; inside = omega arith }
-  next_of-nearer_at (Entry next z) e = read_on-nearer bs at end next z e
+  next_of-nearer_at : (x : Option Entry) → read_on bs at end ≡ x → Nearer at end (next_of end x)
+  next_of-nearer_at None e = record { above = h; inside = omega arith }
+  next_of-nearer_at (Some x) e = read_on-nearer bs at end x.next x.zone e
 
   pub next_of-nearer : Nearer at end (next_of end (read_on bs at end))
   next_of-nearer = next_of-nearer_at (read_on bs at end) refl
@@ -50,22 +51,16 @@ module _ (bs : List ℕ) (at end : ℕ) (h : at < end) where
 pub next-nearer : (bs : List ℕ) (at end next : ℕ) → at < end → next ≡ next_of end (read_on bs at end) → Nearer at end next
 next-nearer bs at end next h e = rw e (next_of-nearer bs at end h)
 
-pub next_of-none : (end : ℕ) (x y : Read) → x ≡ y → x ≡ Bad → end ≡ next_of end y
-next_of-none end x y e q = rw (← e, q)
-
-pub next_of-entry : (end : ℕ) (x y : Read) → x ≡ y → (next z : ℕ) → x ≡ Entry next z → next ≡ next_of end y
-next_of-entry end x y e next z q = rw (← e, q)
-
 -- ---- entries_on
 
 module _ (bs : List ℕ) (end : ℕ) where
-  entries_on-fuel_at : (f g at low : ℕ) (x : Read) → read_on bs at end ≡ x
+  entries_on-fuel_at : (f g at low : ℕ) (x : Option Entry) → read_on bs at end ≡ x
       → ((next least : ℕ) → at < next → next ≤ end → entries_on f bs next end least ≡ entries_on g bs next end least)
       → entries_from (λ next least. entries_on f bs next end least) low x ≡ entries_from (λ next least. entries_on g bs next end least) low x
-  entries_on-fuel_at f g at low Bad e ih = refl
-  entries_on-fuel_at f g at low (Entry next z) e ih =
-      let w = read_on-nearer bs at end next z e in
-      ap (λ (b : Bool). leb low z && b) (ih next (z + 1) w.above w.inside)
+  entries_on-fuel_at f g at low None e ih = refl
+  entries_on-fuel_at f g at low (Some x) e ih =
+      let w = read_on-nearer bs at end x.next x.zone e in
+      ap (λ (b : Bool). leb low x.zone && b) (ih x.next (x.zone + 1) w.above w.inside)
 
   -- enough bytes are enough
   entries_on-fuel : (f g at low : ℕ) → at ≤ end → end ≤ at + f → end ≤ at + g → entries_on f bs at end low ≡ entries_on g bs at end low
@@ -78,27 +73,15 @@ module _ (bs : List ℕ) (end : ℕ) where
 
   -- one law for each way out, where b is what the entries from `at` on come to
   module _ (most : end ≤ length bs) (at low : ℕ) (b : Bool) (h : entries_on (length bs) bs at end low ≡ b) where
-    entries_on_first : at < end → (x : Read) → x ≡ read_on bs at end → entries_from (λ next least. entries_on (length bs) bs next end least) low x ≡ b
+    entries_on_first : at < end → (x : Option Entry) → x ≡ read_on bs at end → entries_from (λ next least. entries_on (length bs) bs next end least) low x ≡ b
     entries_on_first l x e =
         let f = length bs in
         let g : entries_on (suc f) bs at end low ≡ b = entries_on-fuel (suc f) f at low (omega arith) (omega arith) (omega arith) ∙ h in
         let d : at ≡ end → ⊥ = λ q. omega arith in
         rw e (rw (ne_eqb at end d) at g)
 
-    pub entries_on_end : at ≤ end → end ≤ at → true ≡ b
-    entries_on_end k l =
-        let e : at ≡ end = omega arith in
-        let g = entries_on-fuel (length bs) (suc (length bs)) at low k (omega arith) (omega arith) in
-        sym (sym h ∙ g ∙ rw (eq-eqb at end e))
-
-    module _ (l : at < end) (x : Read) (e : x ≡ read_on bs at end) where
-      pub entries_on-bad : x ≡ Bad → false ≡ b
-      entries_on-bad q = rw q at (entries_on_first l x e)
-
-      module _ (next z : ℕ) (q : x ≡ Entry next z) where
-        pub entries_on-nearer : Nearer at end next
-        entries_on-nearer = read_on-nearer bs at end next z (sym e ∙ q)
-
+    module _ (l : at < end) (x : Option Entry) (e : x ≡ read_on bs at end) where
+      module _ (next z : ℕ) (q : x ≡ Reads next z) where
         pub entries_on_low : z < low → false ≡ b
         entries_on_low k = rw (q, lt-leb low z k) at (entries_on_first l x e)
 
@@ -108,11 +91,11 @@ module _ (bs : List ℕ) (end : ℕ) where
 -- ---- starts_at
 
 module _ (bs : List ℕ) (end p : ℕ) where
-  starts_at-fuel_at : (f g at : ℕ) (x : Read) → read_on bs at end ≡ x
+  starts_at-fuel_at : (f g at : ℕ) (x : Option Entry) → read_on bs at end ≡ x
       → ((next : ℕ) → at < next → next ≤ end → starts_at f bs next end p ≡ starts_at g bs next end p)
       → starts_from (λ next. starts_at f bs next end p) x ≡ starts_from (λ next. starts_at g bs next end p) x
-  starts_at-fuel_at f g at Bad e ih = refl
-  starts_at-fuel_at f g at (Entry next z) e ih = let w = read_on-nearer bs at end next z e in ih next w.above w.inside
+  starts_at-fuel_at f g at None e ih = refl
+  starts_at-fuel_at f g at (Some x) e ih = let w = read_on-nearer bs at end x.next x.zone e in ih x.next w.above w.inside
 
   starts_at_past : (f at : ℕ) → end ≤ at → starts_at f bs at end p ≡ false
   starts_at_past zero at h = refl
@@ -144,6 +127,6 @@ module _ (bs : List ℕ) (end p : ℕ) where
     pub starts_at_next : at < end → at < p → starts_at (length bs) bs at end p ≡ starts_at (length bs) bs (next_of end (read_on bs at end)) end p
     starts_at_next h l = starts_at_first h ∙ rw (lt-leb p at l) (from (read_on bs at end))
       where
-        from : (x : Read) → starts_from (λ next. starts_at (length bs) bs next end p) x ≡ starts_at (length bs) bs (next_of end x) end p
-        from Bad = sym (starts_at_past (length bs) end (omega arith))
-        from (Entry next z) = refl
+        from : (x : Option Entry) → starts_from (λ next. starts_at (length bs) bs next end p) x ≡ starts_at (length bs) bs (next_of end x) end p
+        from None = sym (starts_at_past (length bs) end (omega arith))
+        from (Some x) = refl

@@ -28,43 +28,6 @@ and_false false = refl
 abbrev is_here : ℕ → ℕ → ℕ → ℕ → Bool
 is_here p base stop e = ltb (base + e) stop && eqb p (base + e)
 
-module _ (p base stop : ℕ) where
-  not-before : p < base → (e : ℕ) → is_here p base stop e ≡ false
-  not-before h e = rw (ne_eqb p (base + e) (λ q. omega arith)) (and_false (ltb (base + e) stop))
-
-  not_after : stop ≤ p → (e : ℕ) → is_here p base stop e ≡ false
-  not_after h e = at (ltb (base + e) stop) refl
-    where
-      at : (b : Bool) → ltb (base + e) stop ≡ b → (b && eqb p (base + e)) ≡ false
-      at true q = let l = ltb-true (base + e) stop q in ne_eqb p (base + e) (λ z. omega arith)
-      at false q = refl
-
-  here : base ≤ p → p < stop → (e : ℕ) → is_here p base stop e ≡ eqb (p - base) e
-  here h l e = at (eqb (p - base) e) refl
-    where
-      at : (b : Bool) → eqb (p - base) e ≡ b → is_here p base stop e ≡ b
-      at true q =
-          let z = eqb-true (p - base) e q in
-          rw (lt-ltb (base + e) stop (omega arith), eq-eqb p (base + e) (omega arith))
-      at false q =
-          let z = eqb-false (p - base) e q in
-          rw (ne_eqb p (base + e) (λ i. z (omega arith))) (and_false (ltb (base + e) stop))
-
-module _ (ws : List ℕ) (p base stop : ℕ) (full : length ws ≡ 4096) where
-  marks_same : ((e : ℕ) → is_here p base stop e ≡ false) → Marks ws (λ e. has ws e || is_here p base stop e)
-  marks_same h = record { full = full; marked = λ e. sym (ap (λ (b : Bool). has ws e || b) (h e) ∙ or_false (has ws e)) }
-
-  pub marks-before : p < base → Marks ws (λ e. has ws e || is_here p base stop e)
-  marks-before h = marks_same (not-before p base stop h)
-
-  pub marks-after : stop ≤ p → Marks ws (λ e. has ws e || is_here p base stop e)
-  marks-after h = marks_same (not_after p base stop h)
-
-  pub marks-inside : (ws' : List ℕ) → base ≤ p → p < stop → Marks ws' (λ e. has ws e || eqb (p - base) e)
-      → Marks ws' (λ e. has ws e || is_here p base stop e)
-  marks-inside ws' h l w =
-      record { full = w.full; marked = λ i. w.marked i ∙ ap (λ (b : Bool). has ws i || b) (sym (here p base stop h l i)) }
-
 -- ---- uses_on
 
 join-tests : (h l a b : Bool) → ((h || (l && a)) || (l && b)) ≡ (h || (l && (b || a)))

@@ -5,15 +5,14 @@
 --   next_of end x    where the next entry starts, `end` where there is none
 --   Flipped          the contract of `flip_starts`
 -- Assumes nothing.
-use Rattle.std.specs.Prelude.{ℕ, ◌+◌, ◌≤◌, ◌≡◌, ◌&&◌, List, ltb, length}
+use Rattle.std.specs.Prelude.{ℕ, ◌+◌, ◌≤◌, ◌≡◌, ◌&&◌, List, ltb, length, Option, Some, None}
 use Rattle.marks.specs.Marks.{has, Marks, differ}
 use Rattle.image_verify.specs.Verifying.{starts_at}
-use Rattle.image_verify.specs.declared.Read.{Read}
-use Rattle.image_verify.specs.declared.Read.TheVariants as read
+use Rattle.image_verify.specs.declared.Entry.{Entry}
 
-abbrev pub next_of : ℕ → Read → ℕ
-next_of end read.Bad = end
-next_of end (read.Entry next z) = next
+abbrev pub next_of : ℕ → Option Entry → ℕ
+next_of end None = end
+next_of end (Some x) = x.next
 
 -- each start from `first` on is turned over, as far as the stretch goes, and r is the first start after it
 pub record Flipped (bs : List ℕ) (first end base stop : ℕ) (ws : List ℕ) (r : ℕ) (ws' : List ℕ) : Type 0 where

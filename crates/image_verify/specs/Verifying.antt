@@ -8,43 +8,41 @@
 --   uses_on bs n p           some record of the tree means the data entry at the byte p
 --   exact_on bs n end        the records mean the entries' starts: every one of these, and nothing else
 --   verify_on bs             whether all holds
---   number_of, values_of      the paper's number of an answer, 0 where accepted, and its values
+--   values_of                the values of an answer
 --   VerifyImage             the contract of `verify`
 -- Assumes nothing.
-use Rattle.std.specs.Prelude.{ℕ, zero, suc, ◌+◌, ◌-◌, ◌*◌, ◌≡◌, Bool, true, false, ◌&&◌, ◌||◌, not, cond, List, [], leb, ltb, eqb, length, get_or}
+use Rattle.std.specs.Prelude.{ℕ, zero, suc, ◌+◌, ◌-◌, ◌*◌, ◌≡◌, Bool, true, false, ◌&&◌, ◌||◌, not, cond, List, [], leb, ltb, eqb, length, get_or, Option, Some, None, Result, Ok, Err}
 use Rattle.zones.specs.Maps.{Map}
 use Rattle.image.specs.Image.{size24, IsImage}
 use Rattle.metadata.specs.Frames.{number_at, frame_on}
-use Rattle.metadata.specs.declared.Framed.{Framed}
-use Rattle.metadata.specs.declared.Framed.TheVariants as framed
-use Rattle.image_verify.specs.declared.Verified.{Verified}
-use Rattle.image_verify.specs.declared.Verified.TheVariants.{Yes, BadImage}
+use Rattle.metadata.specs.declared.Tail.{Tail}
+use Rattle.refusals.specs.Refusals.{number_of}
+use Rattle.refusals.specs.declared.Refusal.{Refusal}
+use Rattle.refusals.specs.declared.Refusal.TheVariants.{BadImage}
+use Rattle.image_verify.specs.declared.Entry.{Entry}
 use Rattle.image_verify.specs.declared.Numbered.{Numbered}
-use Rattle.image_verify.specs.declared.Numbered.TheVariants as numbered
-use Rattle.image_verify.specs.declared.Read.{Read}
-use Rattle.image_verify.specs.declared.Read.TheVariants as read
 
 -- ---- the data section
 
 -- "one byte C0 + size, then the number without leading zero bytes (0 is C0 alone)"
-unfoldable pub read_on : List ℕ → ℕ → ℕ → Read
+unfoldable pub read_on : List ℕ → ℕ → ℕ → Option Entry
 read_on bs at end =
     cond (leb 0xC0 (get_or bs at 0) && (leb (get_or bs at 0) 0xC4 && (ltb (at + (get_or bs at 0 - 0xC0)) end
     && (eqb (get_or bs at 0) 0xC0 || ltb 0 (get_or bs (at + 1) 0)))))
-    (read.Entry (at + 1 + (get_or bs at 0 - 0xC0)) (number_at bs (at + 1) (get_or bs at 0 - 0xC0))) read.Bad
+    (Some (record { next = at + 1 + (get_or bs at 0 - 0xC0); zone = number_at bs (at + 1) (get_or bs at 0 - 0xC0) })) None
 
 -- "ascending, each once" (f is how many bytes there may be)
-abbrev pub entries_from : (ℕ → ℕ → Bool) → ℕ → Read → Bool
-entries_from go low read.Bad = false
-entries_from go low (read.Entry next z) = leb low z && go next (z + 1)
+abbrev pub entries_from : (ℕ → ℕ → Bool) → ℕ → Option Entry → Bool
+entries_from go low None = false
+entries_from go low (Some x) = leb low x.zone && go x.next (x.zone + 1)
 
 abbrev pub entries_on : ℕ → List ℕ → ℕ → ℕ → ℕ → Bool
 entries_on zero bs at end low = eqb at end
 entries_on (suc f) bs at end low = cond (eqb at end) true (entries_from (λ next least. entries_on f bs next end least) low (read_on bs at end))
 
-abbrev pub starts_from : (ℕ → Bool) → Read → Bool
-starts_from go read.Bad = false
-starts_from go (read.Entry next z) = go next
+abbrev pub starts_from : (ℕ → Bool) → Option Entry → Bool
+starts_from go None = false
+starts_from go (Some x) = go x.next
 
 abbrev pub starts_at : ℕ → List ℕ → ℕ → ℕ → ℕ → Bool
 starts_at zero bs at end p = false
@@ -58,32 +56,32 @@ unfoldable pub record_no : List ℕ → ℕ → ℕ
 record_no bs j = number_at bs (3 * j) 3
 
 -- (every node but the top has data below it: it is a proper prefix of a stored string)
-abbrev pub alive : Numbered → Numbered
-alive numbered.Bad = numbered.Bad
-alive (numbered.To next b) = cond b (numbered.To next b) numbered.Bad
+abbrev pub alive : Option Numbered → Option Numbered
+alive None = None
+alive (Some x) = cond x.has_data (Some x) None
 
 -- "A record below N is a node; equal to N is no data; N + 16 + d means the data entry at offset d. N + 1 to
 -- N + 15 are bad." A node has the next number: "numbered from 0 in the order above".
-unfoldable pub side_on : (ℕ → Numbered) → ℕ → ℕ → ℕ → ℕ → Numbered
+unfoldable pub side_on : (ℕ → Option Numbered) → ℕ → ℕ → ℕ → ℕ → Option Numbered
 side_on go n d next r =
-    cond (ltb r n) (cond (eqb r next) (alive (go next)) numbered.Bad)
-    (cond (eqb r n) (numbered.To next false)
-    (cond (leb (n + 16) r && ltb r (n + 16 + d)) (numbered.To next true) numbered.Bad))
+    cond (ltb r n) (cond (eqb r next) (alive (go next)) None)
+    (cond (eqb r n) (Some (record { next = next; has_data = false }))
+    (cond (leb (n + 16) r && ltb r (n + 16 + d)) (Some (record { next = next; has_data = true })) None))
 
-abbrev pub then_on : Numbered → (ℕ → Bool → Numbered) → Numbered
-then_on numbered.Bad go = numbered.Bad
-then_on (numbered.To next b) go = go next b
+abbrev pub then_on : Option Numbered → (ℕ → Bool → Option Numbered) → Option Numbered
+then_on None go = None
+then_on (Some x) go = go x.next x.has_data
 
 -- (a node is a proper prefix of at most 128 bits, so at most 128 nodes stand on a way down)
-abbrev pub below_on : ℕ → List ℕ → ℕ → ℕ → ℕ → Numbered
-below_on zero bs n d i = numbered.Bad
+abbrev pub below_on : ℕ → List ℕ → ℕ → ℕ → ℕ → Option Numbered
+below_on zero bs n d i = None
 below_on (suc f) bs n d i =
     then_on (side_on (λ j. below_on f bs n d j) n d (i + 1) (record_no bs (2 * i)))
-    (λ next a. then_on (side_on (λ j. below_on f bs n d j) n d next (record_no bs (2 * i + 1))) (λ last b. numbered.To last (a || b)))
+    (λ next a. then_on (side_on (λ j. below_on f bs n d j) n d next (record_no bs (2 * i + 1))) (λ last b. Some (record { next = last; has_data = a || b })))
 
-abbrev pub whole : ℕ → Numbered → Bool
-whole n numbered.Bad = false
-whole n (numbered.To last b) = eqb last n
+abbrev pub whole : ℕ → Option Numbered → Bool
+whole n None = false
+whole n (Some x) = eqb x.next n
 
 unfoldable pub tree_on : List ℕ → ℕ → ℕ → Bool
 tree_on bs n d = whole n (below_on 128 bs n d 0)
@@ -118,29 +116,24 @@ zeros_on zero bs at = true
 zeros_on (suc k) bs at = eqb (get_or bs at 0) 0 && zeros_on k bs (at + 1)
 
 -- "Parts in order: search tree, 16 zero bytes, data section, the 14 bytes .., metadata."
-abbrev pub verify_frame : List ℕ → Framed → Bool
-verify_frame bs framed.Bad = false
-verify_frame bs (framed.Frame n end epoch) =
-    leb (6 * n + 16) end && (zeros_on 16 bs (6 * n) && (entries_on (length bs) bs (6 * n + 16) end 0
-    && (tree_on bs n (end - (6 * n + 16)) && exact_on bs n end)))
+abbrev pub verify_frame : List ℕ → Option Tail → Bool
+verify_frame bs None = false
+verify_frame bs (Some t) =
+    let start = 6 * t.nodes + 16 in
+    leb start t.start && (zeros_on 16 bs (6 * t.nodes) && (entries_on (length bs) bs start t.start 0
+    && (tree_on bs t.nodes (t.start - start) && exact_on bs t.nodes t.start)))
 
 unfoldable pub verify_on : List ℕ → Bool
 verify_on bs = verify_frame bs (frame_on bs)
 
--- No. 9
-abbrev pub number_of : Verified → ℕ
-number_of Yes = 0
-number_of BadImage = 9
-
-abbrev pub values_of : Verified → List ℕ
-values_of Yes = []
-values_of BadImage = []
+abbrev pub values_of : Result Unit Refusal → List ℕ
+values_of r = []
 
 -- ---- what `verify` promises
 
-pub record VerifyImage (bs : List ℕ) (r : Verified) : Type 0 where
+pub record VerifyImage (bs : List ℕ) (r : Result Unit Refusal) : Type 0 where
   -- one value on any bytes
-  pub answer : r ≡ cond (verify_on bs) Yes BadImage
+  pub answer : r ≡ cond (verify_on bs) (Ok tt) (Err BadImage)
   -- No. 9, BadImage: "checker says no"
   pub number : number_of r ≡ cond (verify_on bs) 0 9
   pub values : values_of r ≡ []

@@ -1,96 +1,84 @@
 // The data section: entries one after the other, each a zone number in shortest form. The check, the
-// count and the marks of `used` all read it by `read_entry`, so that what an entry is stands in one place.
+// count and the marks of `used` all read it by `read`, so that what an entry is stands in one place.
 ghost use Rattle.std.specs.Prelude.{◌≤◌, ◌<◌, ◌≡◌, length};
 ghost use Rattle.image_verify.specs.Verifying.{read_on, entries_on};
 ghost use Rattle.image_verify.specs.Describing.{entry_count};
 ghost use Rattle.image_verify.specs.Starts.{next_of};
 
-use crate::Read;
+use crate::Entry;
 
-// From `start` on there are entries up to `end`, in shortest form, each number above the last.
-pub(crate) fn entries(bytes: &[u8], start: usize, end: usize) -> bool
-    requires { (start ≤ end) × (end ≤ length bytes.now) }
-    ensures { result ≡ entries_on (length bytes.now) bytes.now start end 0 }
-{
-    let mut at = start;
-    let mut low: u64 = 0;
-    while at < end {
-        let x = read_entry(bytes, at, end);
-        match x {
-            Read::Bad => {
+// The bytes of an image, up to where its data section ends.
+#[derive(Clone, Copy)]
+pub(crate) struct Section<'a> {
+    pub bytes: &'a [u8],
+    pub end: usize,
+    ghost inside: { end ≤ length bytes.now },
+}
+
+// Stays: `entries`, `count` and the marks of `used` each walk by a loop of their own. An iterator would have to
+// show where it stands, which `entries` asks for at its end and `used` where a stretch stops.
+impl Section<'_> {
+    // From `start` on there are entries, in shortest form, each number above the last.
+    pub(crate) fn entries(&self, start: usize) -> bool
+        requires { start ≤ self.now.end }
+        ensures { result ≡ entries_on (length self.now.bytes.now) self.now.bytes.now start self.now.end 0 }
+    {
+        let mut at = start;
+        let mut low: u64 = 0;
+        while let Some(x) = self.read(at) {
+            let number = x.zone as u64;
+            if number < low {
                 return false;
             }
-            Read::Entry(next, z) => {
-                let number = z as u64;
-                if number < low {
-                    return false;
-                }
-                low = number + 1;
-                at = next;
-            }
+            low = number + 1;
+            at = x.next;
         }
+        at == self.end
     }
-    true
-}
 
-// The data entries from `start` on, up to `end` or to bytes that are none.
-pub(crate) fn entry_count(bytes: &[u8], start: usize, end: usize) -> usize
-    requires { (start ≤ end) × (end ≤ length bytes.now) }
-    ensures { result ≡ entry_count (length bytes.now) bytes.now start end }
-{
-    let mut at = start;
-    let mut k: usize = 0;
-    while at < end {
-        let x = read_entry(bytes, at, end);
-        match x {
-            Read::Bad => {
-                return k;
-            }
-            Read::Entry(next, _) => {
-                k += 1;
-                at = next;
-            }
+    // The data entries from `start` on, up to the end or to bytes that are none.
+    pub(crate) fn count(&self, start: usize) -> usize
+        requires { start ≤ self.now.end }
+        ensures { result ≡ entry_count (length self.now.bytes.now) self.now.bytes.now start self.now.end }
+    {
+        let mut at = start;
+        let mut k: usize = 0;
+        while let Some(x) = self.read(at) {
+            k += 1;
+            at = x.next;
         }
+        k
     }
-    k
-}
 
-// Where the entry after the one at `at` starts, or `end` where there is none.
-pub(crate) fn next_start(bytes: &[u8], at: usize, end: usize) -> usize
-    requires { (at < end) × (end ≤ length bytes.now) }
-    ensures { result ≡ next_of end (read_on bytes.now at end) }
-{
-    let x = read_entry(bytes, at, end);
-    match x {
-        Read::Bad => end,
-        Read::Entry(next, _) => next,
+    // Where the entry after the one at `at` starts, or the end where there is none.
+    pub(crate) fn after(&self, at: usize) -> usize
+        requires { at < self.now.end }
+        ensures { result ≡ next_of self.now.end (read_on self.now.bytes.now at self.now.end) }
+    {
+        self.read(at).map_or(self.end, |x| x.next)
     }
-}
 
-// The data entry at a byte of a data section that ends before `end`.
-fn read_entry(bytes: &[u8], at: usize, end: usize) -> Read
-    requires { (at < end) × (end ≤ length bytes.now) }
-    ensures { result ≡ read_on bytes.now at end }
-{
-    let b = bytes[at] as usize;
-    if b < 0xC0 {
-        return Read::Bad;
+    // The data entry at a byte.
+    #[tactic(auto, unfolding(crate::specs::Verifying::read_on))]
+    fn read(&self, at: usize) -> Option<Entry>
+        ensures { result ≡ read_on self.now.bytes.now at self.now.end }
+    {
+        if self.end <= at {
+            return None;
+        }
+        let size = match self.bytes[at] {
+            control @ 0xC0..=0xC4 => (control - 0xC0) as usize,
+            _ => return None,
+        };
+        if self.end - at <= size {
+            return None;
+        }
+        if size != 0 && self.bytes[at + 1] == 0 {
+            return None;
+        }
+        Some(Entry {
+            next: at + 1 + size,
+            zone: metadata::number_at(self.bytes, at + 1, size) as u32,
+        })
     }
-    if 0xC4 < b {
-        return Read::Bad;
-    }
-    let size = b - 0xC0;
-    if end - at <= size {
-        return Read::Bad;
-    }
-    if size == 0 {
-        return Read::Entry(at + 1, 0);
-    }
-    if bytes[at + 1] == 0 {
-        return Read::Bad;
-    }
-    Read::Entry(
-        at + 1 + size,
-        metadata::number_at(bytes, at + 1, size) as u32,
-    )
 }

@@ -9,118 +9,105 @@ mod data; // the data section
 mod tree; // the search tree
 mod used; // which data entries are used
 
-ghost use Rattle.std.specs.Prelude.{◌+◌, ◌≤◌, ◌≡◌, length};
-ghost use Rattle.metadata.specs.declared.Framed.TheVariants.{Frame};
-ghost use Rattle.image_verify.specs.Verifying.{zeros_on, verify_frame, VerifyImage};
+ghost use Rattle.std.specs.Prelude.{◌≤◌, ◌≡◌, ◌==◌, length};
+ghost use Rattle.std.specs.List.{list_all};
+ghost use Rattle.image_verify.specs.Verifying.{verify_frame, VerifyImage};
 ghost use Rattle.image_verify.specs.Describing.{Describe};
 
-use data::{entries, entry_count};
-use metadata::Framed;
-use tree::tree;
+use data::Section;
+use metadata::Tail;
+use refusals::Refusal;
+use tree::Tree;
 use used::exact;
 
-// The answer: they are, or BadImage.
-#[derive(Clone, Copy)]
-pub enum Verified {
-    Yes,
-    BadImage,
-}
-
-// Whether the bytes are an image.
-pub fn verify(bytes: &[u8]) -> Verified
+// Whether the bytes are an image: Ok, or BadImage.
+pub fn verify(bytes: &[u8]) -> Result<(), Refusal>
     ensures { VerifyImage bytes.now result }
 {
-    let x = metadata::frame(bytes);
-    match x {
-        Framed::Bad => Verified::BadImage,
-        Framed::Frame(n, end, _) => {
-            if parts(bytes, n, end) {
-                return Verified::Yes;
-            }
-            Verified::BadImage
-        }
+    let Some(tail) = metadata::frame(bytes) else {
+        return Err(Refusal::BadImage);
+    };
+    if parts(bytes, tail) {
+        return Ok(());
     }
+    Err(Refusal::BadImage)
 }
 
-// The parts before the marker, which starts at `end`: the search tree of n nodes, 16 zero bytes, and the
-// data section.
-fn parts(bytes: &[u8], n: u32, end: usize) -> bool
-    requires { end ≤ length bytes.now }
-    ensures { result ≡ verify_frame bytes.now (Frame n end 0) }
+// The parts before the marker: the search tree, 16 zero bytes, and the data section.
+fn parts(bytes: &[u8], tail: Tail) -> bool
+    requires { tail.start ≤ length bytes.now }
+    ensures { result ≡ verify_frame bytes.now (Some tail) }
 {
-    let size = 6 * (n as usize);
+    let size = 6 * (tail.nodes as usize);
     let start = size + 16;
+    let end = tail.start;
     if end < start {
         return false;
     }
-    if !zeros(bytes, size) {
-        return false;
-    }
-    if !entries(bytes, start, end) {
-        return false;
-    }
-    if !tree(bytes, n, end - start) {
-        return false;
-    }
-    exact(bytes, n, end)
+    let tree = Tree {
+        bytes,
+        nodes: tail.nodes,
+        data: end - start,
+    };
+    let section = Section { bytes, end };
+    zeros(&bytes[size..start])
+        && section.entries(start)
+        && tree.numbered()
+        && exact(&section, tail.nodes)
 }
 
-// The 16 bytes from `at` on are 0.
-fn zeros(bytes: &[u8], at: usize) -> bool
-    requires { at + 16 ≤ length bytes.now }
-    ensures { result ≡ zeros_on 16 bytes.now at }
+fn zeros(bytes: &[u8]) -> bool
+    ensures { result ≡ list_all (λ b. b == 0) bytes.now }
 {
-    let mut i: usize = 0;
-    while i < 16 {
-        if bytes[at + i] != 0 {
-            return false;
-        }
-        i += 1;
-    }
-    true
+    bytes.iter().all(|b| *b == 0)
 }
 
 // ---- what an image says of itself
 
-// The nodes of an image, its data entries and its epoch; or bytes that do not end as an image does, or
-// have no room for the nodes.
-#[derive(Clone, Copy)]
-pub enum Described {
-    Image(u32, usize, u64),
-    BadImage,
+// The nodes of an image, its data entries and its epoch.
+#[derive(Clone, Copy, Debug, PartialEq, Eq)]
+pub struct Description {
+    pub nodes: u32,
+    pub entries: usize,
+    pub epoch: u64,
 }
 
-// How many nodes and data entries an image has, and its epoch. Bytes that `verify` does not accept have an
-// answer too, which is of no use.
-pub fn describe(bytes: &[u8]) -> Described
+// How many nodes and data entries an image has, and its epoch; BadImage where the bytes do not end as an
+// image does, or have no room for the nodes. Other bytes that `verify` does not accept have an answer too,
+// which is of no use.
+pub fn describe(bytes: &[u8]) -> Result<Description, Refusal>
     ensures { Describe bytes.now result }
 {
-    let x = metadata::frame(bytes);
-    match x {
-        Framed::Bad => Described::BadImage,
-        Framed::Frame(n, end, epoch) => {
-            let start = 6 * (n as usize) + 16;
-            if end < start {
-                return Described::BadImage;
-            }
-            Described::Image(n, entry_count(bytes, start, end), epoch)
-        }
+    let Some(tail) = metadata::frame(bytes) else {
+        return Err(Refusal::BadImage);
+    };
+    let start = 6 * (tail.nodes as usize) + 16;
+    if tail.start < start {
+        return Err(Refusal::BadImage);
     }
+    let section = Section {
+        bytes,
+        end: tail.start,
+    };
+    Ok(Description {
+        nodes: tail.nodes,
+        entries: section.count(start),
+        epoch: tail.epoch,
+    })
 }
 
 // ---- what the parts of the check answer
 
-// A data entry: where the next one starts, and its number; or bytes that are none.
-#[derive(Clone, Copy)]
-pub enum Read {
-    Entry(usize, u32),
-    Bad,
+// A data entry: where the next one starts, and its number.
+#[derive(Clone, Copy, Debug, PartialEq, Eq)]
+pub struct Entry {
+    pub next: usize,
+    pub zone: u32,
 }
 
-// What a part of the tree comes to: the next node's number, and whether some data hangs in the part;
-// or records that no image has.
-#[derive(Clone, Copy)]
-pub enum Numbered {
-    To(u32, bool),
-    Bad,
+// What a part of the tree comes to: the next node's number, and whether some data hangs in the part.
+#[derive(Clone, Copy, Debug, PartialEq, Eq)]
+pub struct Numbered {
+    pub next: u32,
+    pub has_data: bool,
 }

@@ -6,7 +6,7 @@ ghost use Rattle.marks.specs.Marks.{has, Marks};
 ghost use Rattle.image_verify.specs.Verifying.{uses_on, exact_on};
 ghost use Rattle.image_verify.specs.Starts.{Flipped};
 
-use crate::data::next_start;
+use crate::data::Section;
 
 // The bytes of a stretch: 32 for each word of the bitmap.
 const STRETCH: usize = 131072;
@@ -14,83 +14,71 @@ const STRETCH: usize = 131072;
 // The records of the tree mean the entries' starts: every one of these, and nothing else. For each
 // stretch of the data section the bytes that some record means are marked, the marks of the entries'
 // starts are turned over, and then no mark may be left.
-pub(crate) fn exact(bytes: &[u8], n: u32, end: usize) -> bool
-    requires { (6 * n + 16 ≤ end) × (end ≤ length bytes.now) }
-    ensures { result ≡ exact_on bytes.now n end }
+pub(crate) fn exact(section: &Section, n: u32) -> bool
+    requires { 6 * n + 16 ≤ section.now.end }
+    ensures { result ≡ exact_on section.now.bytes.now n section.now.end }
 {
     let start = 6 * (n as usize) + 16;
     let mut marks = [0u32; 4096];
     let mut base = start;
     let mut at = start;
-    while base < end {
-        let stop = stretch(base, end);
-        mark_records(bytes, n, base, stop, &mut marks);
-        at = flip_starts(bytes, at, end, base, stop, &mut marks);
+    // Stays a while: where a stretch stops is where the next begins, and the next start goes with it.
+    while base < section.end {
+        let span = Span {
+            base,
+            stop: base + STRETCH.min(section.end - base),
+        };
+        mark_records(section.bytes, n, span, &mut marks);
+        at = flip_starts(section, at, span, &mut marks);
         if !marks::blank(&marks) {
             return false;
         }
-        base = stop;
+        base = span.stop;
     }
     true
 }
 
-// Where the stretch from `base` on ends.
-fn stretch(base: usize, end: usize) -> usize
-    requires { base < end }
-    ensures { (base < result) × (result ≤ end) × (result ≤ base + 131072) }
-{
-    if end - base <= STRETCH {
-        return end;
-    }
-    base + STRETCH
+// The bytes of a stretch, from `base` on up to `stop`: no more than one bitmap has marks for.
+#[derive(Clone, Copy)]
+struct Span {
+    base: usize,
+    stop: usize,
+    ghost short: { stop ≤ base + 131072 },
 }
 
 // Marks each byte of a stretch that some record of the tree means.
-fn mark_records(bytes: &[u8], n: u32, base: usize, stop: usize, marks: &mut [u32; 4096])
-    requires { (6 * n + 16 ≤ base) × (base ≤ length bytes.now) × (stop ≤ base + 131072) × (length marks.old ≡ 4096) }
-    ensures { Marks marks.new (λ e. has marks.old e || (ltb (base + e) stop && uses_on bytes.now n (base + e))) }
+fn mark_records(bytes: &[u8], n: u32, span: Span, marks: &mut [u32; 4096])
+    requires { (6 * n + 16 ≤ span.base) × (span.base ≤ length bytes.now) }
+    ensures { Marks marks.new (λ e. has marks.old e || (ltb (span.base + e) span.stop && uses_on bytes.now n (span.base + e))) }
 {
     let count = 2 * (n as usize);
     let tree = 5 * (n as usize);
-    let mut j: usize = 0;
-    while j < count {
+    for j in 0..count {
         let r = metadata::record_at(bytes, 3 * j) as usize;
-        mark_inside(r + tree, base, stop, marks);
-        j += 1;
+        mark_inside(r + tree, span, marks);
     }
 }
 
 // Marks the byte p if it is one of the stretch.
-fn mark_inside(p: usize, base: usize, stop: usize, marks: &mut [u32; 4096])
-    requires { (stop ≤ base + 131072) × (length marks.old ≡ 4096) }
-    ensures { Marks marks.new (λ e. has marks.old e || (ltb (base + e) stop && eqb p (base + e))) }
+fn mark_inside(p: usize, span: Span, marks: &mut [u32; 4096])
+    ensures { Marks marks.new (λ e. has marks.old e || (ltb (span.base + e) span.stop && eqb p (span.base + e))) }
 {
-    if p < base {
-        return;
+    if span.base <= p && p < span.stop {
+        marks::add(marks, p - span.base);
     }
-    if stop <= p {
-        return;
-    }
-    marks::add(marks, p - base);
 }
 
 // Turns the marks of the entries' starts over, from `first` on up to the stretch's end, and gives the
 // first start after it.
-fn flip_starts(
-    bytes: &[u8],
-    first: usize,
-    end: usize,
-    base: usize,
-    stop: usize,
-    marks: &mut [u32; 4096],
-) -> usize
-    requires { (base ≤ first) × (first ≤ end) × (stop ≤ end) × (end ≤ length bytes.now) × (stop ≤ base + 131072) × (length marks.old ≡ 4096) }
-    ensures { Flipped bytes.now first end base stop marks.old result marks.new }
+fn flip_starts(section: &Section, first: usize, span: Span, marks: &mut [u32; 4096]) -> usize
+    requires { (span.base ≤ first) × (first ≤ section.now.end) × (span.stop ≤ section.now.end) }
+    ensures { Flipped section.now.bytes.now first section.now.end span.base span.stop marks.old result marks.new }
 {
     let mut at = first;
-    while at < stop {
-        marks::flip(marks, at - base);
-        at = next_start(bytes, at, end);
+    // Stays a while: it goes from start to start, and ends with the stretch where the entries go on.
+    while at < span.stop {
+        marks::flip(marks, at - span.base);
+        at = section.after(at);
     }
     at
 }

@@ -121,9 +121,6 @@ module _ {ws : List ℕ} {p : Plan} {epoch : ℕ} {out : List ℕ} (f : Fills ws
           some_node = some-nodes ws f.map f.holds p q;
         }
 
-    pub room-put : length o2 ≡ length out
-    room-put = z.room ∙ d.room
-
     module _ {o3 o4 : List ℕ} {r4 : ℕ} (s : Stands ws p.root p.nodes p.runs o2 o3) (t : Put o3 r1 (tail_of p.nodes epoch) o4 r4) where
       abbrev tree : List ℕ
       tree = tree_bytes size24 p.nodes used (forks_of f.map)

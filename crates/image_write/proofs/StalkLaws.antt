@@ -1,40 +1,21 @@
 -- The laws of the nodes on a way of single steps: one step more, and what a record and a node are as bytes.
 -- No contract cites this file.
 -- Assumes nothing.
-use Prim.Native.Nat.{ℕ, suc, ◌+◌, ◌*◌, ◌/◌, ◌%◌, ◌≤◌, ◌<◌}
-use native.Mathlib.Nat.{div-one}
-use native.Mathlib.Numerals.{towards_suc, add-one}
+use Prim.Native.Nat.{ℕ, suc, ◌+◌, ◌*◌, ◌≤◌, ◌<◌}
+use native.Mathlib.Numerals.{add-one}
 use native.Mathlib.Omega.{arith}
-use mathlib.Core.Path.{◌≡◌, refl, sym, ◌∙◌}
+use mathlib.Core.Path.{◌≡◌, refl, ◌∙◌}
 use mathlib.Core.Bool.{Bool, true, false, cond}
 use mathlib.Core.List.{List, [], ◌∷◌, ◌++◌}
 use lib.Dec.{ltb}
-use lib.ListN.{length, drop, get_or, set, drop_of_length-le}
+use lib.ListN.{length, drop, get_or, drop_of_length-le}
 use lib.Seq.{sets, drop-cons}
 use borrow.Author.Tests.{ltb-true, ltb-false}
 use Rattle.bits.specs.Bits.{Bits}
-use Rattle.image.specs.Bytes.{bytes_of}
-use Rattle.image.specs.Image.{size24, node_bytes}
 use Rattle.image.proofs.SetsLaws.{sets-append}
 use Rattle.image_write.specs.Stalks.{way_in, step_bytes, stalk_bytes, PutStalk}
 
 -- ---- one node
-
-pub sets-record : (out : List ℕ) (at r : ℕ)
-    → set (set (set out at (r / 65536 % 256)) (at + 1) (r / 256 % 256)) (at + 2) (r % 256) ≡ sets out at (bytes_of 3 r)
-sets-record out at r = simp (towards_suc, div-one)
-
-pub sets-fork : (out mid after : List ℕ) (at left right : ℕ) → mid ≡ sets out at (bytes_of 3 left) → after ≡ sets mid (at + 3) (bytes_of 3 right)
-    → after ≡ sets out at (node_bytes size24 left right)
-sets-fork out mid after at left right e f = f ∙ rw e (sym (sets-append out at (bytes_of 3 left) (bytes_of 3 right)))
-
-pub sets_step_right : (out after : List ℕ) (i on above : ℕ) (x : Bool) → x ≡ true → after ≡ sets out i (node_bytes size24 above on)
-    → after ≡ sets out i (step_bytes x on above)
-sets_step_right out after i on above x h e = rw h e
-
-pub sets_step_left : (out after : List ℕ) (i on above : ℕ) (x : Bool) → x ≡ false → after ≡ sets out i (node_bytes size24 on above)
-    → after ≡ sets out i (step_bytes x on above)
-sets_step_left out after i on above x h e = rw h e
 
 length-step_bytes : (x : Bool) (on above : ℕ) → length (step_bytes x on above) ≡ 6
 length-step_bytes false on above = refl

@@ -26,28 +26,24 @@ use Rattle.image_write.proofs.TableLaws.{few-labels, length-forks_of_holds}
 
 -- ---- Planned
 
-pub size-topped : (t : Trie) → size (topped t) ≡ max 1 (size t)
+pub size-topped : (t : Trie) → size (topped t) ≡ max (size t) 1
 size-topped (leaf o) = refl
 size-topped (fork l r) = omega arith
 
 pub part_holds : (ws : List ℕ) (m : Map) (hd : Header) → hd ≡ header_at ws → Holds ws m → Part ws hd.root 0
 part_holds ws m hd e h = rw e (record { tree = h.tree; hangs = hangs_holds ws m h; few = few-labels ws m h })
 
-pub planned_holds : (ws : List ℕ) (hd : Header) (c n : ℕ) (runs : Runs) → hd ≡ header_at ws → Counts ws hd.root 0 c → n ≡ max 1 c
+pub planned_holds : (ws : List ℕ) (hd : Header) (c n : ℕ) (runs : Runs) → hd ≡ header_at ws → Counts ws hd.root 0 c → n ≡ max c 1
     → (m : Map) → Holds ws m → runs ≡ runs_of (zones_of (forks_of m)) → Planned ws m (record { root = hd.root; nodes = n; runs = runs })
 planned_holds ws hd c n runs e f g m h r =
     let k : c ≡ size (grow none 0 h.tree) = f h.tree (rw e (hangs_holds ws m h)) in
     record {
       root_is = ap (λ (x : Header). x.root) e;
-      nodes_are = g ∙ ap (max 1) k ∙ sym (length-forks_of_holds ws m h ∙ size-topped (grow none 0 h.tree));
+      nodes_are = g ∙ ap (λ (x : ℕ). max x 1) k ∙ sym (length-forks_of_holds ws m h ∙ size-topped (grow none 0 h.tree));
       runs_are = r;
     }
 
 -- ---- Stands: the tree from its root
-
-topped_same : (t : Trie) → (size t ≡ 0 → ⊥) → topped t ≡ t
-topped_same (leaf o) n = absurd (n refl)
-topped_same (fork l r) n = refl
 
 topped-leaf : (n : ℕ) (zs : List ℕ) (t : Trie) (top : ℕ) (out mid after : List ℕ) → size t ≡ 0 → mid ≡ sets out 0 (bytes_from n zs 0 t)
     → top ≡ record_to n zs 0 t → after ≡ sets mid 0 (node_bytes size24 top top) → after ≡ sets out 0 (bytes_from n zs 0 (topped t))
@@ -57,12 +53,6 @@ topped-leaf n zs (leaf o) top out mid after z e f g =
 topped-leaf n zs (fork l r) top out mid after z e f g = absurd (omega arith)
 
 module _ (ws : List ℕ) (l n : ℕ) (runs : Runs) (out mid : List ℕ) (x : Grown) (g : Grows ws l 0 n 0 n runs out x mid) where
-  pub stands_grown : (x.next ≡ 0 → ⊥) → Stands ws l n runs out mid
-  stands_grown z p =
-      let k = g p in
-      let s : size (grow p.over 0 p.tree) ≡ 0 → ⊥ = λ e. z (omega (arith, k.goes_on)) in
-      rw (topped_same (grow p.over 0 p.tree) s) k.bytes
-
   pub stands-topped : (after : List ℕ) → x.next ≡ 0 → after ≡ sets mid 0 (node_bytes size24 x.top x.top) → Stands ws l n runs out after
   stands-topped after z e p =
       let k = g p in

@@ -4,42 +4,44 @@
 use Prim.Native.Nat.{ℕ, suc, ◌^◌, ◌≤◌, ◌<◌}
 use native.Mathlib.Omega.{arith}
 use mathlib.Core.Path.{◌≡◌, refl, sym, ap, ◌∙◌}
+use mathlib.Core.Bool.{Bool, true, false}
+use Rattle.std.specs.Prelude.{Result, Ok, Err}
 use mathlib.Core.List.{List, [], ◌∷◌}
 use lib.ListN.{length}
 use Rattle.zones.specs.Maps.{Map}
 use Rattle.records.specs.Holds.{Holds}
 use Rattle.audit.specs.Checking.{audit_on, Check}
-use Rattle.audit.specs.declared.Audited.{Audited}
-use Rattle.audit.specs.declared.Audited.TheVariants as audited
+use Rattle.audit.proofs.PromiseLaws.{audit_on_refused}
+use Rattle.refusals.specs.Refusals.{number_of}
+use Rattle.refusals.specs.declared.Refusal.{Refusal}
+use Rattle.refusals.specs.declared.Refusal.TheVariants.{BadLength, Damaged, ShortOut}
 use Rattle.image.specs.Image.{size24, image, image_length, IsImage}
 use Rattle.image_data.specs.Runs.{length_of}
-use Rattle.image_write.specs.Writing.{number_of, values_of, refusal_of, WriteImage}
+use Rattle.image_write.specs.Writing.{values_of, refusal_of, WriteImage}
 use Rattle.image_write.specs.Whole.{Planned, length_by, Fills, filled}
 use Rattle.image_write.specs.declared.Plan.{Plan}
-use Rattle.image_write.specs.declared.Written.{Written}
-use Rattle.image_write.specs.declared.Written.TheVariants.{Wrote, BadLength, Damaged, ShortOut}
 use Rattle.image_write.proofs.TableLaws.{Machine, is_image_holds}
 use Rattle.image_write.proofs.ImageLaws.{runs_small, length_by-image_length}
 
 -- the words and the epoch are the machine's, and x is what the check says of the words
-pub record Checked (ws : List ℕ) (epoch : ℕ) (x : Audited) : Type 0 where
+pub record Checked (ws : List ℕ) (epoch : ℕ) (x : Result Bool Refusal) : Type 0 where
   pub words : Machine ws
   pub small : epoch < 2 ^ 64
   pub check : Check ws x
 
-module _ {ws : List ℕ} {epoch : ℕ} {x : Audited} (k : Checked ws epoch x) where
+module _ {ws : List ℕ} {epoch : ℕ} {x : Result Bool Refusal} (k : Checked ws epoch x) where
   image-checked : (m : Map) → Holds ws m → IsImage size24 (image size24 m epoch) m epoch
   image-checked m h = is_image_holds ws m h k.words epoch k.small
 
-  refusal-checked : (y : Audited) → x ≡ y → refusal_of (audit_on ws) ≡ refusal_of y
+  refusal-checked : (y : Result Bool Refusal) → x ≡ y → refusal_of (audit_on ws) ≡ refusal_of y
   refusal-checked y e = ap refusal_of (sym k.check.answer ∙ e)
 
   -- ---- a refusal of the words
 
-  write-refused : (out : List ℕ) (r : Written) (n : ℕ) → refusal_of (audit_on ws) ≡ suc n → number_of r ≡ suc n → values_of r ≡ 0 ∷ []
+  write-refused : (out : List ℕ) (r : Result ℕ Refusal) (n : ℕ) → refusal_of (audit_on ws) ≡ suc n → number_of r ≡ suc n → values_of r ≡ 0 ∷ []
       → WriteImage ws epoch out r out
   write-refused out r n e f g =
-      let none : (m : Map) → Holds ws m → ⊥ = λ m h. omega (arith, refusal-checked audited.Yes (k.check.exact m h)) in
+      let none : (m : Map) → Holds ws m → ⊥ = λ m h. omega (arith, refusal-checked (Ok true) (k.check.exact m h)) in
       record {
         refusal = rw e f;
         counts = λ i j. g;
@@ -49,15 +51,17 @@ module _ {ws : List ℕ} {epoch : ℕ} {x : Audited} (k : Checked ws epoch x) wh
         image_is = image-checked;
       }
 
-  pub write-bad_length : (out : List ℕ) → x ≡ audited.BadLength → WriteImage ws epoch out BadLength out
-  write-bad_length out e = write-refused out BadLength 0 (refusal-checked audited.BadLength e) refl refl
+  pub write-bad_length : (out : List ℕ) (e : Refusal) → x ≡ Err e → WriteImage ws epoch out (Err e) out
+  write-bad_length out e q =
+      let b : e ≡ BadLength = audit_on_refused ws e (sym k.check.answer ∙ q) in
+      rw b (write-refused out (Err BadLength) 0 (refusal-checked (Err BadLength) (q ∙ ap Err b)) refl refl)
 
-  pub write_damaged : (out : List ℕ) → x ≡ audited.No → WriteImage ws epoch out Damaged out
-  write_damaged out e = write-refused out Damaged 5 (refusal-checked audited.No e) refl refl
+  pub write_damaged : (out : List ℕ) → x ≡ Ok false → WriteImage ws epoch out (Err Damaged) out
+  write_damaged out e = write-refused out (Err Damaged) 5 (refusal-checked (Ok false) e) refl refl
 
   -- ---- a table
 
-  module _ (e : x ≡ audited.Yes) (p : Plan) (q : (m : Map) → Holds ws m → Planned ws m p) where
+  module _ (e : x ≡ Ok true) (p : Plan) (q : (m : Map) → Holds ws m → Planned ws m p) where
     pub plan_small : length_of p.runs ≤ 2 ^ 24
     plan_small = let u = k.check.yes e in runs_small ws u.0 u.1 p (q u.0 u.1) k.words epoch
 
@@ -65,9 +69,9 @@ module _ {ws : List ℕ} {epoch : ℕ} {x : Audited} (k : Checked ws epoch x) wh
       length_is : (m : Map) → Holds ws m → n ≡ image_length size24 m epoch
       length_is m h = l ∙ length_by-image_length ws m h p (q m h) k.words epoch
 
-      pub write_short : length out < n → WriteImage ws epoch out (ShortOut n) out
+      pub write_short : length out < n → WriteImage ws epoch out (Err (ShortOut n)) out
       write_short s =
-          let z = refusal-checked audited.Yes e in
+          let z = refusal-checked (Ok true) e in
           record {
             refusal = rw z tt;
             counts = λ i j. absurd (omega arith);
@@ -83,10 +87,10 @@ module _ {ws : List ℕ} {epoch : ℕ} {x : Audited} (k : Checked ws epoch x) wh
           record { map = u.0; holds = u.1; planned = q u.0 u.1; room = omega (arith, length_is u.0 u.1) }
 
       pub write-wrote : n ≤ length out → (after : List ℕ) → ((f : Fills ws p epoch out) → after ≡ filled f.map epoch out)
-          → WriteImage ws epoch out (Wrote n) after
+          → WriteImage ws epoch out (Ok n) after
       unfolding filled
       write-wrote s after g =
-          let z = refusal-checked audited.Yes e in
+          let z = refusal-checked (Ok true) e in
           record {
             refusal = rw z tt;
             counts = λ i j. absurd (omega arith);

@@ -11,60 +11,46 @@ ghost use Rattle.std.specs.Prelude.{◌≡◌};
 ghost use Rattle.image_write.specs.Whole.{Fills, filled};
 ghost use Rattle.image_write.specs.Writing.{WriteImage};
 
-use audit::Audited;
 use image_data::Runs;
 use measure::{length_of, plan_of};
+use refusals::Refusal;
 use tree::put_tree;
 
-// The answer: the length of the image written, or why none is. ShortOut gives the length needed.
-#[derive(Clone, Copy)]
-pub enum Written {
-    Wrote(usize),
-    BadLength,
-    Damaged,
-    ShortOut(usize),
-}
-
 // Writes the image of the table's map with the epoch, and answers its length. The bytes past it stay,
-// and so do all bytes where there is no image: words that no table has, or too short an output.
-pub fn write(table: &[u32], epoch: u64, out: &mut [u8]) -> Written
+// and so do all bytes where there is no image: words that no table has, or too short an output, whose
+// refusal gives the length needed.
+pub fn write(table: &[u32], epoch: u64, out: &mut [u8]) -> Result<usize, Refusal>
     ensures { WriteImage table.now epoch out.old result out.new }
 {
-    let x = audit::audit(table);
-    match x {
-        Audited::BadLength => Written::BadLength,
-        Audited::No => Written::Damaged,
-        Audited::Yes => {
-            let p = plan_of(table);
-            let size = length_of(p, epoch);
-            if out.len() < size {
-                return Written::ShortOut(size);
-            }
-            put_image(table, p, epoch, out);
-            Written::Wrote(size)
-        }
+    if !audit::audit(table)? {
+        return Err(Refusal::Damaged);
     }
+    let p = plan_of(table);
+    let size = length_of(&p, epoch);
+    if out.len() < size {
+        return Err(Refusal::ShortOut(size));
+    }
+    put_image(table, &p, epoch, out);
+    Ok(size)
 }
 
 // Writes the image. The data section comes first, since the search tree's records are found in it.
-fn put_image(table: &[u32], p: Plan, epoch: u64, out: &mut [u8])
-    requires { Fills table.now p epoch out.old }
-    ensures { (f : Fills table.now p epoch out.old) → out.new ≡ filled f.map epoch out.old }
+fn put_image(table: &[u32], p: &Plan, epoch: u64, out: &mut [u8])
+    requires { Fills table.now p.now epoch out.old }
+    ensures { (f : Fills table.now p.now epoch out.old) → out.new ≡ filled f.map epoch out.old }
 {
-    let nodes = p.nodes;
-    let zeros = [0u8; 16];
-    let tree = 6 * (nodes as usize);
+    let tree = 6 * p.nodes as usize;
     let tail = image_zones::put_data(table, out, tree + 16);
-    metadata::put(out, tree, &zeros);
-    put_tree(table, p.root, nodes, p.runs, out);
-    metadata::put_tail(out, tail, nodes, epoch);
+    metadata::put(out, tree, &[0; 16]);
+    put_tree(table, p, out);
+    metadata::put_tail(out, tail, p.nodes, epoch);
 }
 
 // ---- what the parts of the writer answer
 
 // What is measured before anything is written: the table's root, the nodes of the image, and the
 // runs of its data section.
-#[derive(Clone, Copy)]
+#[derive(Clone, Copy, Debug, PartialEq, Eq)]
 pub struct Plan {
     pub root: u32,
     pub nodes: u32,
@@ -73,7 +59,7 @@ pub struct Plan {
 
 // What writing a part of the tree comes to: the next node's number, and the record that a side holds
 // which leads to the part.
-#[derive(Clone, Copy)]
+#[derive(Clone, Copy, Debug, PartialEq, Eq)]
 pub struct Grown {
     pub next: u32,
     pub top: u32,

@@ -1,6 +1,6 @@
 // What is measured before anything is written: how many nodes the image has, the runs of its data
 // section, and so its length.
-ghost use Rattle.std.specs.Prelude.{ℕ, ◌^◌, ◌≤◌, max, ◌≡◌};
+ghost use Rattle.std.specs.Prelude.{ℕ, ◌^◌, ◌≤◌, ◌≡◌};
 ghost use Rattle.std.proofs.Math.Option.{none};
 ghost use Rattle.zones.specs.Maps.{Map};
 ghost use Rattle.zones.specs.Tree.{Tree};
@@ -18,21 +18,11 @@ pub(crate) fn plan_of(table: &[u32]) -> Plan
     requires { (m : Map) × Holds table.now m }
     ensures { (m : Map) → Holds table.now m → Planned table.now m result }
 {
-    let h = records::read_header(table);
-    let root = h.root;
-    let nodes = at_least_one(count_below(table, root, 0));
+    let root = records::read_header(table).root;
+    // The empty string is a node, even where nothing is stored below it.
+    let nodes = count_below(table, root, 0).max(1);
     let runs = image_zones::measure(table);
     Plan { root, nodes, runs }
-}
-
-// The empty string is a node, even where nothing is stored below it.
-fn at_least_one(n: u32) -> u32
-    ensures { result ≡ max 1 n }
-{
-    if n == 0 {
-        return 1;
-    }
-    n
 }
 
 // The nodes of the image from a string of a bits down, below which the link l hangs.
@@ -55,11 +45,11 @@ fn count_below(table: &[u32], l: u32, a: u32) -> u32
 }
 
 // The image's length.
-pub(crate) fn length_of(p: Plan, epoch: u64) -> usize
-    requires { length_of p.runs ≤ 2 ^ 24 }
-    ensures { result ≡ length_by p epoch }
+#[tactic(auto, unfolding(crate::specs::Whole::length_by))]
+pub(crate) fn length_of(p: &Plan, epoch: u64) -> usize
+    requires { length_of p.now.runs ≤ 2 ^ 24 }
+    ensures { result ≡ length_by p.now epoch }
 {
-    let nodes = p.nodes;
-    let numbers = metadata::bytes_in(nodes as u64) + metadata::bytes_in(epoch);
-    6 * (nodes as usize) + image_data::length_of(p.runs) + 170 + numbers
+    let numbers = metadata::bytes_in(u64::from(p.nodes)) + metadata::bytes_in(epoch);
+    6 * p.nodes as usize + p.runs.length() + 170 + numbers
 }

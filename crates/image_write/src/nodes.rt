@@ -1,6 +1,6 @@
 // The bytes of nodes. The image has a node for each bit of a way, the table only where strings part or
 // end, so a way of single steps is written from the key alone, and no record is read for it.
-ghost use Rattle.std.specs.Prelude.{◌+◌, ◌-◌, ◌*◌, ◌^◌, ◌≤◌, ◌≡◌, cond, ltb, length, drop};
+ghost use Rattle.std.specs.Prelude.{◌+◌, ◌-◌, ◌*◌, ◌^◌, ◌≤◌, ◌≡◌, length, drop};
 ghost use Rattle.std.proofs.lemmas.List.Edits.{sets};
 ghost use Rattle.prefix.specs.Keys.{string_of};
 ghost use Rattle.image.specs.Bytes.{bytes_of};
@@ -17,26 +17,12 @@ pub(crate) fn put_stalk(out: &mut [u8], k: Prefix, a: u32, next: u32, above: u32
     ensures { PutStalk (drop a (string_of k)) next above tip out.old result out.new }
 {
     let w = k.width;
-    let mut i = a;
-    let mut at = next;
-    while i < w {
-        let on = way_in(i + 1, w, at + 1, tip);
-        let x = prefix::bit(k, i);
-        put_step(out, at, x, on, above);
-        i += 1;
-        at += 1;
+    for i in a..w {
+        let at = next + (i - a);
+        let on = if i + 1 < w { at + 1 } else { tip };
+        put_step(out, at, prefix::bit(k, i), on, above);
     }
-    way_in(a, w, next, tip)
-}
-
-// The record that leads to a way from bit i to bit w: its first node m, or t where it has none.
-fn way_in(i: u32, w: u32, m: u32, t: u32) -> u32
-    ensures { result ≡ cond (ltb i w) m t }
-{
-    if i < w {
-        return m;
-    }
-    t
+    if a < w { next } else { tip }
 }
 
 // Writes node i, which goes on by the side of the bit x and has `above` on the other.
@@ -56,7 +42,7 @@ pub(crate) fn put_fork(out: &mut [u8], i: u32, left: u32, right: u32)
     requires { 6 * i + 6 ≤ length out.old }
     ensures { out.new ≡ sets out.old (6 * i) (node_bytes size24 left right) }
 {
-    let at = 6 * (i as usize);
+    let at = 6 * i as usize;
     put_record(out, at, left);
     put_record(out, at + 3, right);
 }
@@ -66,7 +52,8 @@ fn put_record(out: &mut [u8], at: usize, r: u32)
     requires { at + 3 ≤ length out.old }
     ensures { out.new ≡ sets out.old at (bytes_of 3 r) }
 {
-    out[at] = (r / 65536 % 256) as u8;
-    out[at + 1] = (r / 256 % 256) as u8;
-    out[at + 2] = (r % 256) as u8;
+    let [_, high, middle, low] = r.to_be_bytes();
+    out[at] = high;
+    out[at + 1] = middle;
+    out[at + 2] = low;
 }

@@ -4,26 +4,25 @@ ghost use Rattle.std.specs.Prelude.{◌+◌, ◌*◌, ◌^◌, ◌≤◌, length
 ghost use Rattle.image_data.specs.Runs.{length_of};
 ghost use Rattle.image_write.specs.Planting.{Here, Planted, Grows, Rooted, Stands};
 
-use crate::Grown;
 use crate::nodes::{put_fork, put_stalk};
-use image_data::Runs;
+use crate::{Grown, Plan};
 use records::Record;
 
-// Writes all n nodes. Where the top is no node of the tree, it is one of the image, with what is
+// Writes all nodes. Where the top is no node of the tree, it is one of the image, with what is
 // stored there on both sides.
-pub(crate) fn put_tree(table: &[u32], root: u32, n: u32, runs: Runs, out: &mut [u8])
-    requires { Rooted table.now root n runs out.old }
-    ensures { Stands table.now root n runs out.old out.new }
+pub(crate) fn put_tree(table: &[u32], p: &Plan, out: &mut [u8])
+    requires { Rooted table.now p.now.root p.now.nodes p.now.runs out.old }
+    ensures { Stands table.now p.now.root p.now.nodes p.now.runs out.old out.new }
 {
-    let x = put_below(table, root, 0, n, 0, n, runs, out);
+    let x = put_below(table, p.root, 0, p.nodes, 0, p, out);
     if x.next == 0 {
         put_fork(out, 0, x.top, x.top);
     }
 }
 
 // Writes the nodes of the image from a string of a bits down, below which the link l hangs, numbered
-// from `next`. `above` is the record of the longest stored prefix above; n is how many nodes the
-// image has, after which the data section already stands, in the given runs. One record is read per
+// from `next`. `above` is the record of the longest stored prefix above; the plan has how many nodes the
+// image has, after which the data section already stands, in the plan's runs. One record is read per
 // node; what hangs on the sides is written before the node's own, which holds their records.
 fn put_below(
     table: &[u32],
@@ -31,12 +30,11 @@ fn put_below(
     a: u32,
     above: u32,
     next: u32,
-    n: u32,
-    runs: Runs,
+    p: &Plan,
     out: &mut [u8],
 ) -> Grown
-    requires { Planted table.now l a above next n runs out.old }
-    ensures { Grows table.now l a above next n runs out.old result out.new }
+    requires { Planted table.now l a above next p.now.nodes p.now.runs out.old }
+    ensures { Grows table.now l a above next p.now.nodes p.now.runs out.old result out.new }
 {
     if l == 0 {
         return Grown { next, top: above };
@@ -45,27 +43,26 @@ fn put_below(
     let k = records::key_of(r);
     let w = r.tag / 2;
     let own = next + (w - a);
-    let here = here_of(out, n, runs, r, above);
+    let here = here_of(out, p, r, above);
     if image_zones::both_end(r) {
         let top = put_stalk(out, k, a, next, above, here);
         return Grown { next: own, top };
     }
-    let x = put_below(table, r.left, w + 1, here, own + 1, n, runs, out);
-    let y = put_below(table, r.right, w + 1, here, x.next, n, runs, out);
+    let x = put_below(table, r.left, w + 1, here, own + 1, p, out);
+    let y = put_below(table, r.right, w + 1, here, x.next, p, out);
     put_fork(out, own, x.top, y.top);
     let top = put_stalk(out, k, a, next, above, own);
-    let after = y.next;
-    Grown { next: after, top }
+    Grown { next: y.next, top }
 }
 
 // The record of a node's own zone, or the one above it where it stores none.
-fn here_of(out: &[u8], n: u32, runs: Runs, r: Record, above: u32) -> u32
-    requires { (6 * n + 16 + length_of runs ≤ length out.now) × (n + 16 + length_of runs ≤ 2 ^ 24) }
-    ensures { Here out.now n runs r above result }
+fn here_of(out: &[u8], p: &Plan, r: Record, above: u32) -> u32
+    requires { (6 * p.now.nodes + 16 + length_of p.now.runs ≤ length out.now) × (p.now.nodes + 16 + length_of p.now.runs ≤ 2 ^ 24) }
+    ensures { Here out.now p.now.nodes p.now.runs r above result }
 {
     if r.tag % 2 == 0 {
         return above;
     }
-    let base = 6 * (n as usize) + 16;
-    n + 16 + image_data::offset_of(out, base, runs, r.zone)
+    let base = 6 * p.nodes as usize + 16;
+    p.nodes + 16 + p.runs.offset_of(out, base, r.zone)
 }

@@ -1,4 +1,4 @@
 pub mod InOrderLaws
 pub mod UsedLaws
 pub mod PassesLaws
-pub mod TurnsLaws
+pub mod NumbersLaws

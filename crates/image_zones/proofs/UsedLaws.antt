@@ -24,11 +24,10 @@ use Rattle.image.proofs.ZonesLaws.{uses, used_by, any-zones_of}
 use Rattle.marks.proofs.MarksLaws.{or_false}
 use Rattle.image_blocks.specs.Blocks.{Keeps}
 use Rattle.image_blocks.specs.declared.Window.{Window}
+use Rattle.image_blocks.specs.declared.kept.Kept.{Kept}
 use Rattle.image_blocks.proofs.SortedLaws.{SameNumbers}
 use Rattle.image_blocks.proofs.BlocksLaws.{keeps_ext}
-use Rattle.image_zones.specs.Used.{zone_in, used_in, beside, both_end}
-use Rattle.image_zones.specs.declared.Above.{Above}
-use Rattle.image_zones.specs.declared.Above.TheVariants.{Zone, Nothing}
+use Rattle.image_zones.specs.Used.{used_in, beside, both_end}
 
 -- ---- tests
 
@@ -53,21 +52,12 @@ beside_none : (a n : ℕ) (o : Option ℕ) → n ≤ a → beside a n o ≡ []
 unfolding beside
 beside_none a n o l = rw (le-ltb a n l)
 
-module _ {w : Window} {r : ℕ} {xs : List ℕ} (ys : List ℕ) (a n : ℕ) (o : Option ℕ) where
-  pub keeps_way : a < n → Keeps w xs r (used_in (leaf o) ++ ys) → Keeps w xs r (beside a n o ++ ys)
+module _ {w : Window} {k : Kept} (ys : List ℕ) (a n : ℕ) (o : Option ℕ) where
+  pub keeps_way : a < n → Keeps w k (used_in (leaf o) ++ ys) → Keeps w k (beside a n o ++ ys)
   keeps_way l h = rw (beside_way a n o l) h
 
-  pub keeps_no_way : n ≤ a → Keeps w xs r ys → Keeps w xs r (beside a n o ++ ys)
+  pub keeps_no_way : n ≤ a → Keeps w k ys → Keeps w k (beside a n o ++ ys)
   keeps_no_way l h = rw (beside_none a n o l) h
-
--- ---- a leaf
-
-module _ {w : Window} {r : ℕ} {xs : List ℕ} (ys : List ℕ) (a : Above) where
-  pub keeps-zone : (z : ℕ) → a ≡ Zone z → Keeps w xs r (z ∷ ys) → Keeps w xs r (used_in (leaf (zone_in a)) ++ ys)
-  keeps-zone z e h = rw e h
-
-  pub keeps_nothing : a ≡ Nothing → Keeps w xs r ys → Keeps w xs r (used_in (leaf (zone_in a)) ++ ys)
-  keeps_nothing e h = rw e h
 
 -- ---- used_in
 
@@ -175,8 +165,8 @@ nearer_above x o n = rw (ne_eqb (x.tag % 2) 1 n)
 
 -- ---- a part of a table
 
-pub keeps-tip : {w : Window} {r : ℕ} {xs : List ℕ} (ys : List ℕ) (o : Option ℕ) (a : ℕ) (t : Tree ℕ) → t ≡ tip
-    → Keeps w xs r (used_in (leaf o) ++ ys) → Keeps w xs r (used_in (grow o a t) ++ ys)
+pub keeps-tip : {w : Window} {k : Kept} (ys : List ℕ) (o : Option ℕ) (a : ℕ) (t : Tree ℕ) → t ≡ tip
+    → Keeps w k (used_in (leaf o) ++ ys) → Keeps w k (used_in (grow o a t) ++ ys)
 keeps-tip ys o a t e h = rw e h
 
 module _ {ws : List ℕ} {l a : ℕ} {t : Tree ℕ} (h : HangsNode ws l a t) (x : Record) (e : x ≡ record_at ws l) where
@@ -193,24 +183,24 @@ module _ {ws : List ℕ} {l a : ℕ} {t : Tree ℕ} (h : HangsNode ws l a t) (x 
   pub hangs_right : Hangs ws x.right (x.tag / 2 + 1) h.right
   hangs_right = rw (width_is, e) h.hangs_right
 
-  pub keeps_node : {w : Window} {r : ℕ} {xs : List ℕ} (ys : List ℕ) (o own : Option ℕ) → own ≡ nearer (zone_of x) o
-      → Keeps w xs r (used_in (grow own (x.tag / 2 + 1) h.right)
+  pub keeps_node : {w : Window} {k : Kept} (ys : List ℕ) (o own : Option ℕ) → own ≡ nearer (zone_of x) o
+      → Keeps w k (used_in (grow own (x.tag / 2 + 1) h.right)
       ++ (used_in (grow own (x.tag / 2 + 1) h.left) ++ (beside a (x.tag / 2) o ++ ys)))
-      → Keeps w xs r (used_in (grow o a t) ++ ys)
-  keeps_node {w} {r} {xs} ys o own f k =
+      → Keeps w k (used_in (grow o a t) ++ ys)
+  keeps_node {w} {k} ys o own f q =
       let d : ℕ = length h.string + 1 in
       let own_is : own ≡ nearer h.zone o = f ∙ ap (λ (v : Option ℕ). nearer v o) (ap zone_of e ∙ h.bears.zone) in
-      let sides : Keeps w xs r (used_in (grow (nearer h.zone o) d h.right) ++ (used_in (grow (nearer h.zone o) d h.left)
-      ++ (beside a (length h.string) o ++ ys))) = rw (own_is, width_is) at k in
+      let sides : Keeps w k (used_in (grow (nearer h.zone o) d h.right) ++ (used_in (grow (nearer h.zone o) d h.left)
+      ++ (beside a (length h.string) o ++ ys))) = rw (own_is, width_is) at q in
       rw h.is_node (keeps_ext sides _ (used_node o a l h.string h.zone h.left h.right ys))
 
   -- nothing is stored below the node: its two sides are leaves that hold its own zone or the one above it
-  pub keeps_end : {w : Window} {r : ℕ} {xs : List ℕ} (ys : List ℕ) (o own : Option ℕ) (b : Bool) → own ≡ nearer (zone_of x) o → b ≡ both_end x → b ≡ true
-      → Keeps w xs r (used_in (leaf own) ++ (beside a (x.tag / 2) o ++ ys)) → Keeps w xs r (used_in (grow o a t) ++ ys)
+  pub keeps_end : {w : Window} {k : Kept} (ys : List ℕ) (o own : Option ℕ) (b : Bool) → own ≡ nearer (zone_of x) o → b ≡ both_end x → b ≡ true
+      → Keeps w k (used_in (leaf own) ++ (beside a (x.tag / 2) o ++ ys)) → Keeps w k (used_in (grow o a t) ++ ys)
   unfolding both_end
-  keeps_end ys o own b f q e k =
+  keeps_end ys o own b f q e s =
       let none : T (eqb x.left 0 && eqb x.right 0) = true-T (eqb x.left 0 && eqb x.right 0) (sym q ∙ e) in
       let left = eqb→eq x.left 0 (and_left (eqb x.left 0) (eqb x.right 0) none) in
       let right = eqb→eq x.right 0 (and_right (eqb x.left 0) (eqb x.right 0) none) in
       keeps_node ys o own f
-      (rw (hangs-tip _ _ _ _ hangs_left left, hangs-tip _ _ _ _ hangs_right right) (keeps_ext k _ (used_twice own (beside a (x.tag / 2) o ++ ys))))
+      (rw (hangs-tip _ _ _ _ hangs_left left, hangs-tip _ _ _ _ hangs_right right) (keeps_ext s _ (used_twice own (beside a (x.tag / 2) o ++ ys))))

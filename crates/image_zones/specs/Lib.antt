@@ -1,2 +1,3 @@
 pub mod Used
 pub mod Passes
+pub mod Numbers

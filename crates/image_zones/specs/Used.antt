@@ -7,15 +7,14 @@
 --   both_end r          a record has no side
 -- Assumes nothing.
 use Rattle.std.specs.Prelude.{ℕ, Bool, cond, ◌&&◌, List, [], ◌∷◌, ◌++◌, ltb, eqb}
+use Rattle.std.specs.Prelude.{None, Some, Option as Maybe}
 use Rattle.std.proofs.Math.Option.{Option, none, some}
 use Rattle.records.specs.declared.Record.{Record}
 use Rattle.image.specs.Tries.{Trie, leaf, fork}
-use Rattle.image_zones.specs.declared.Above.{Above}
-use Rattle.image_zones.specs.declared.Above.TheVariants.{Zone, Nothing}
 
-abbrev pub zone_in : Above → Option ℕ
-zone_in (Zone z) = some z
-zone_in Nothing = none
+abbrev pub zone_in : Maybe ℕ → Option ℕ
+zone_in (Some z) = some z
+zone_in None = none
 
 abbrev pub used_in : Trie → List ℕ
 used_in (leaf none) = []

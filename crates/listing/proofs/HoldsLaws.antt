@@ -6,11 +6,15 @@ use native.Mathlib.Omega.{arith}
 use mathlib.Core.Path.{◌≡◌, refl, sym, ap, ◌∙◌}
 use mathlib.Core.Bool.{Bool, true, false, not, cond}
 use mathlib.Core.List.{List, [], ◌++◌}
-use borrow.Author.Tests.{ltb-false}
+use Rattle.std.specs.Prelude.{Option, None, Some, Result, Ok, Err}
 use lib.Dec.{ltb, eqb}
 use lib.ListN.{length, get_or, take, drop, replicate, length-map}
+use borrow.Author.Tests.{ltb-false}
 use Rattle.bits.specs.Lists.{keep, is_empty}
 use Rattle.bits.proofs.ListsLaws.{length-keep_imp, keep-every}
+use Rattle.refusals.specs.declared.Refusal.{Refusal}
+use Rattle.refusals.specs.declared.Refusal.TheVariants.{BadLength, BadPrefix, BadSize, ShortOut}
+use Rattle.prefix.specs.declared.Prefix.{Prefix}
 use Rattle.prefix.proofs.KeysLaws.{is_valid_true}
 use Rattle.zones.specs.Maps.{Map, keys}
 use Rattle.zones.specs.Nodes.{nodes}
@@ -19,13 +23,8 @@ use Rattle.zones.proofs.TreeLaws.{nodes-entries}
 use Rattle.records.specs.Layout.{is_table}
 use Rattle.records.specs.Holds.{Holds}
 use Rattle.records.proofs.HoldsLaws.{nodes_holds}
-use Rattle.listing.specs.Touring.{start_on, Touring, tour_from}
+use Rattle.listing.specs.Touring.{gives, start_on, Touring, tour_from}
 use Rattle.listing.specs.Slicing.{sound_of, refused_of, toured_of, slice_on, resume_of, words_of}
-use Rattle.listing.specs.declared.Resume.{Resume}
-use Rattle.listing.specs.declared.Resume.TheVariants.{Start, After}
-use Rattle.listing.specs.declared.Refused.TheVariants as refused
-use Rattle.listing.specs.declared.Toured.TheVariants as toured
-use Rattle.listing.specs.declared.Sliced.TheVariants.{Given}
 use Rattle.listing.proofs.TourLaws.{tour_from_out, tour_from-pending}
 use Rattle.listing.proofs.Items.{Item, items, all_items, stored_in, up_to, past}
 use Rattle.listing.proofs.SliceItemsLaws.{keys-items, given-items, remains-items, passed-items}
@@ -34,34 +33,34 @@ use Rattle.listing.proofs.StartLaws.{Resumes, Sought, start_on_holds}
 -- ---- refused_of
 
 -- what is known where no refusal applies
-pub record Accepted (r : Resume) (b room : ℕ) : Type 0 where
+pub record Accepted (r : Option Prefix) (b room : ℕ) : Type 0 where
   pub resumes : Resumes r
   pub fits : 6 * b ≤ room
 
-resumes_sound : (r : Resume) → sound_of r ≡ true → Resumes r
-resumes_sound Start e = tt
-resumes_sound (After k) e = is_valid_true k e
+resumes_sound : (r : Option Prefix) → sound_of r ≡ true → Resumes r
+resumes_sound None e = tt
+resumes_sound (Some k) e = is_valid_true k e
 
 refused_of_no_at : (t s z f short : Bool)
-    → cond t (cond s (cond z refused.BadSize (cond f refused.BadSize (cond short refused.ShortOut refused.No))) refused.BadPrefix)
-    refused.BadLength ≡ refused.No
+    (needed : ℕ) → cond {A = Result (Unit {0}) Refusal} t
+    (cond s (cond z (Err BadSize) (cond f (Err BadSize) (cond short (Err (ShortOut needed)) (Ok tt)))) (Err BadPrefix)) (Err BadLength) ≡ Ok tt
     → (s ≡ true) × (short ≡ false)
-refused_of_no_at true true false false false e = (refl, refl)
-refused_of_no_at true true false false true e = (refl, cc)
-refused_of_no_at true true false true short e = (refl, cc)
-refused_of_no_at true true true f short e = (refl, cc)
-refused_of_no_at true false z f short e = (cc, cc)
-refused_of_no_at false s z f short e = (cc, cc)
+refused_of_no_at true true false false false n e = (refl, refl)
+refused_of_no_at true true false false true n e = (refl, cc)
+refused_of_no_at true true false true short n e = (refl, cc)
+refused_of_no_at true true true f short n e = (refl, cc)
+refused_of_no_at true false z f short n e = (cc, cc)
+refused_of_no_at false s z f short n e = (cc, cc)
 
-pub refused_of_no : (n : ℕ) (r : Resume) (b room : ℕ) → refused_of n r b room ≡ refused.No → Accepted r b room
+pub refused_of_no : (n : ℕ) (r : Option Prefix) (b room : ℕ) → refused_of n r b room ≡ Ok tt → Accepted r b room
 unfolding refused_of
 refused_of_no n r b room e =
-    let q = refused_of_no_at (is_table n) (sound_of r) (eqb b 0) (ltb 4096 b) (ltb room (6 * b)) e in
+    let q = refused_of_no_at (is_table n) (sound_of r) (eqb b 0) (ltb 4096 b) (ltb room (6 * b)) (6 * b) e in
     record { resumes = resumes_sound r q.0; fits = ltb-false room (6 * b) q.1 }
 
 -- ---- Sought: the items that the way leads to are those of the slice
 
-module _ (ws : List ℕ) (m : Map) (h : Holds ws m) (r : Resume) (ls : List ℕ) (s : Sought ws m h r ls) where
+module _ (ws : List ℕ) (m : Map) (h : Holds ws m) (r : Option Prefix) (ls : List ℕ) (s : Sought ws m h r ls) where
   -- the items that are still to come
   abbrev coming : List Item
   coming = items s.t ++ all_items s.ts
@@ -90,8 +89,8 @@ module _ (ws : List ℕ) (m : Map) (h : Holds ws m) (r : Resume) (ls : List ℕ)
 
 -- ---- slice_on
 
-module _ (ws : List ℕ) (r : Resume) (b : ℕ) (us : List ℕ) (m : Map) (h : Holds ws m)
-    (ok : refused_of (length ws) r b (length us) ≡ refused.No) where
+module _ (ws : List ℕ) (r : Option Prefix) (b : ℕ) (us : List ℕ) (m : Map) (h : Holds ws m)
+    (ok : refused_of (length ws) r b (length us) ≡ Ok tt) where
   -- the stack before the way
   abbrev blank : List ℕ
   blank = replicate 129 0
@@ -105,37 +104,37 @@ module _ (ws : List ℕ) (r : Resume) (b : ℕ) (us : List ℕ) (m : Map) (h : H
   left = coming ws m h r blank sought_holds
 
   abbrev tour : Touring
-  tour = tour_from ws b sought_holds.next sought_holds.depth (start_on ws r blank).links us
+  tour = tour_from ws b sought_holds.next (start_on ws r blank).depth (start_on ws r blank).links us
 
   slice_on-toured : slice_on ws r b us ≡ toured_of tour sought_holds.number
   unfolding slice_on
   slice_on-toured = rw (ok, sought_holds.found_is)
 
-  answer-toured : tour.out ≡ toured.Done (length (take b (stored_in left))) (not (is_empty (past b left))) (length (up_to b left))
-      → (slice_on ws r b us).answer ≡ Given (length (given m (resume_of r) b)) (remains m (resume_of r) b) (count m (resume_of r) b)
+  answer-toured : tour.out ≡ gives (length (take b (stored_in left))) (not (is_empty (past b left))) (length (up_to b left))
+      → (slice_on ws r b us).answer ≡ gives (length (given m (resume_of r) b)) (remains m (resume_of r) b) (count m (resume_of r) b)
   answer-toured e =
       rw (slice_on-toured, e, given-sought ws m h r blank sought_holds b, remains-sought ws m h r blank sought_holds b)
-      (ap (Given (length (given m (resume_of r) b)) (remains m (resume_of r) b)) (count-sought ws m h r blank sought_holds b))
+      (ap (gives (length (given m (resume_of r) b)) (remains m (resume_of r) b)) (count-sought ws m h r blank sought_holds b))
 
   words-toured : tour.words ≡ words_of (take b (stored_in left)) ++ drop (6 * length (take b (stored_in left))) us
       → (slice_on ws r b us).words ≡ words_of (given m (resume_of r) b) ++ drop (6 * length (given m (resume_of r) b)) us
   words-toured e = rw (slice_on-toured, e, given-sought ws m h r blank sought_holds b)
 
-pub slice_on_holds : (ws : List ℕ) (r : Resume) (b : ℕ) (us : List ℕ) (m : Map) → Holds ws m
-    → refused_of (length ws) r b (length us) ≡ refused.No
-    → (slice_on ws r b us).answer ≡ Given (length (given m (resume_of r) b)) (remains m (resume_of r) b) (count m (resume_of r) b)
+pub slice_on_holds : (ws : List ℕ) (r : Option Prefix) (b : ℕ) (us : List ℕ) (m : Map) → Holds ws m
+    → refused_of (length ws) r b (length us) ≡ Ok tt
+    → (slice_on ws r b us).answer ≡ gives (length (given m (resume_of r) b)) (remains m (resume_of r) b) (count m (resume_of r) b)
 slice_on_holds ws r b us m h ok =
     let s = sought_holds ws r b us m h ok in
     let ls : List ℕ = replicate 129 0 in
     answer-toured ws r b us m h ok
-    (tour_from_out ws b s.next s.depth (start_on ws r ls).links us s.t s.ts s.pending (few-sought ws m h r ls s))
+    (tour_from_out ws b s.next (start_on ws r ls).depth (start_on ws r ls).links us s.t s.ts s.pending (few-sought ws m h r ls s))
 
-pub slice_on-written : (ws : List ℕ) (r : Resume) (b : ℕ) (us : List ℕ) (m : Map) → Holds ws m → ((i : ℕ) → get_or ws i 0 < 2 ^ 32)
-    → refused_of (length ws) r b (length us) ≡ refused.No
+pub slice_on-written : (ws : List ℕ) (r : Option Prefix) (b : ℕ) (us : List ℕ) (m : Map) → Holds ws m → ((i : ℕ) → get_or ws i 0 < 2 ^ 32)
+    → refused_of (length ws) r b (length us) ≡ Ok tt
     → (slice_on ws r b us).words ≡ words_of (given m (resume_of r) b) ++ drop (6 * length (given m (resume_of r) b)) us
 slice_on-written ws r b us m h w ok =
     let s = sought_holds ws r b us m h ok in
     let ls : List ℕ = replicate 129 0 in
     words-toured ws r b us m h ok
-    (tour_from-pending ws b s.next s.depth (start_on ws r ls).links us s.t s.ts s.pending w
+    (tour_from-pending ws b s.next (start_on ws r ls).depth (start_on ws r ls).links us s.t s.ts s.pending w
     (refused_of_no (length ws) r b (length us) ok).fits (few-sought ws m h r ls s)).words

@@ -9,6 +9,7 @@ use mathlib.Core.Bool.{Bool, true, false}
 use mathlib.Core.List.Memᴰ
 use mathlib.Core.List.{List, [], ◌∷◌, ◌++◌, append-nil, append_assoc}
 use mathlib.Core.Option.{Option}
+use Rattle.std.specs.Prelude.{Ok}
 use lib.Dec.{T}
 use lib.ListN.{length, length-append}
 use borrow.Author.Tests.{ne_eqb}
@@ -25,9 +26,8 @@ use Rattle.zones.specs.Tree.{Tree, tip, node, Good}
 use Rattle.zones.specs.Searching.{onward, walk}
 use Rattle.records.specs.Layout.{record_at}
 use Rattle.records.proofs.LayoutLaws.{room_of_zero}
-use Rattle.listing.specs.Touring.{Stack, push_on, sought_on, Seeking, after_on, seek_on}
-use Rattle.listing.specs.declared.Seek.TheVariants as seek
-use Rattle.listing.specs.declared.Sought.TheVariants as sought
+use Rattle.listing.specs.Touring.{starts, Stack, push_on, sought_on, Seeking, after_on, seek_on}
+use Rattle.listing.specs.declared.way.Sought.TheVariants.{On, Done}
 use Rattle.listing.proofs.Items.{Item, items, all_items, height, Stacked, Pending}
 use Rattle.listing.proofs.PushLaws.{height-linked, Leads, leads-tip, leads_left, leads_right, Pushed, push_on-leads}
 use Rattle.listing.proofs.SoughtLaws.{rest, rest-equal, rest_left, rest_right, rest_above, rest_apart-all, rest_apart-none}
@@ -38,11 +38,10 @@ use Rattle.listing.proofs.SoughtLaws.{Met, sought_on_above, sought_on_apart, sou
 -- x is a way's end where n nodes were met, and what is left leads to the items is
 pub record Comes (ws : List ℕ) (n : ℕ) (is : List Item) (x : Seeking) : Type 0 where
   pub next : ℕ
-  pub depth : ℕ
   pub tree : Tree ℕ
   pub trees : List (Tree ℕ)
-  pub out : x.out ≡ seek.At next depth n
-  pub pending : Pending ws next x.links depth tree trees
+  pub out : x.out ≡ starts next n
+  pub pending : Pending ws next x.links x.depth tree trees
   pub items_is : items tree ++ all_items trees ≡ is
 
 -- where a way for k stands that looks for what begins with p, may still make f steps, and has the trees ts
@@ -65,7 +64,7 @@ module _ (ws : List ℕ) (k : Prefix) where
       (p : Bits) (f n low : ℕ) (ls : List ℕ) (o l : ℕ) (ts : List (Tree ℕ)) → Good p t → Leads ws l t → Stands ws k p low f ls o ts
       → Comes ws (n + length (walk t key)) (rest key t ++ all_items ts) (seek_on f ws k l low n ls o)
 
-  seek_on_zero : (f low n : ℕ) (ls : List ℕ) (o : ℕ) → seek_on f ws k 0 low n ls o ≡ record { links = ls; out = seek.At 0 o n }
+  seek_on_zero : (f low n : ℕ) (ls : List ℕ) (o : ℕ) → seek_on f ws k 0 low n ls o ≡ record { links = ls; depth = o; out = starts 0 n }
   unfolding seek_on
   seek_on_zero zero low n ls o = refl
   seek_on_zero (suc f) low n ls o = refl
@@ -79,10 +78,9 @@ module _ (ws : List ℕ) (k : Prefix) where
         let h : o + 0 ≤ 129 = omega (arith, stem-le p st.prefix) in
         rw (e.linked, seek_on_zero f low n ls o) (record {
           next = 0;
-          depth = o;
           tree = tip;
           trees = ts;
-          out = ap (seek.At 0 o) (sym (add-zero n));
+          out = ap (starts 0) (sym (add-zero n));
           pending = record { linked = refl; sound = (leads-tip ws).sound; room = h; stacked = st.stacked; length_is = st.length_is };
           items_is = refl;
         })
@@ -113,14 +111,13 @@ module _ (ws : List ℕ) (k : Prefix) where
           omega (arith, height-linked (record_at ws) a p (node a z v l r) (omega (arith, stem-le p st.prefix)) g e.linked)
 
       -- the way ends: the tree t is next, and u goes on the stack
-      goes_done : (next side : ℕ) (t u : Tree ℕ) → sought_on ws k a low ≡ sought.Done next side → Leads ws next t → Leads ws side u
+      goes_done : (next side : ℕ) (t u : Tree ℕ) → sought_on ws k a low ≡ Ok (Done next side) → Leads ws next t → Leads ws side u
           → o + height u ≤ 129 → o + min 1 (height u) + height t ≤ 129 → Goes (n + 1) (items t ++ items u)
       unfolding after_on
       goes_done next side t u q lt lu h i =
           let w = push_on-leads ws ls o ts st.stacked st.length_is side u lu h in
           rw q (record {
             next = next;
-            depth = (push_on ls o side).depth;
             tree = t;
             trees = w.trees;
             out = refl;
@@ -128,14 +125,14 @@ module _ (ws : List ℕ) (k : Prefix) where
             items_is = ap (◌++◌ (items t)) w.items_is ∙ sym (append_assoc (items t) (items u) (all_items ts));
           })
 
-      goes_sides : sought_on ws k a low ≡ sought.Done (record_at ws a).left (record_at ws a).right → Goes (n + 1) (items l ++ items r)
+      goes_sides : sought_on ws k a low ≡ Ok (Done (record_at ws a).left (record_at ws a).right) → Goes (n + 1) (items l ++ items r)
       goes_sides q =
           let h : o + height r ≤ 129 = omega (arith, height-whole) in
           let i : o + min 1 (height r) + height l ≤ 129 = omega (arith, height-whole) in
           goes_done (record_at ws a).left (record_at ws a).right l r q (leads_left e) (leads_right e) h i
 
       -- nothing goes on the stack
-      goes_next : (next : ℕ) (t : Tree ℕ) → sought_on ws k a low ≡ sought.Done next 0 → Leads ws next t → o + height t ≤ 129
+      goes_next : (next : ℕ) (t : Tree ℕ) → sought_on ws k a low ≡ Ok (Done next 0) → Leads ws next t → o + height t ≤ 129
           → Goes (n + 1) (items t)
       goes_next next t q lt h = goes_to (sym (append-nil (items t))) (goes_done next 0 t tip q lt (leads-tip ws) (omega arith) (omega arith))
 
@@ -154,7 +151,7 @@ module _ (ws : List ℕ) (k : Prefix) where
           }
 
       -- the way goes on into the tree t, and u goes on the stack
-      goes_on : (x : Bool) (next side : ℕ) (t u : Tree ℕ) → Follows t → sought_on ws k a low ≡ sought.On next (length z + 1) side
+      goes_on : (x : Bool) (next side : ℕ) (t u : Tree ℕ) → Follows t → sought_on ws k a low ≡ Ok (On next (length z + 1) side)
           → Says (Below x) z key → Good (z ++ (x ∷ [])) t → Leads ws next t → Leads ws side u → o + height u ≤ 129
           → Goes (n + suc (length (walk t key))) (rest key t ++ items u)
       unfolding after_on

@@ -6,11 +6,14 @@ use mathlib.Core.Path.{◌≡◌, refl, sym, ap, ap₂, ◌∙◌}
 use mathlib.Core.Bool.{Bool, true, false, cond}
 use mathlib.Core.List.Memᴰ
 use mathlib.Core.List.{List, [], ◌∷◌, ◌++◌, map, map-append, Memᴰ}
+use Rattle.std.specs.Prelude.{Option, None, Some, Result, Ok, Err}
 use lib.ListN.{length, replicate, length-map}
 use Rattle.bits.specs.Lists.{keep, last}
 use Rattle.bits.specs.Bits.{Bits}
 use Rattle.bits.proofs.ListsLaws.{keep_append}
+use Rattle.refusals.specs.declared.Refusal.{Refusal}
 use Rattle.prefix.specs.Keys.{string_of}
+use Rattle.prefix.specs.declared.Prefix.{Prefix}
 use Rattle.zones.specs.Maps.{Map, keys}
 use Rattle.zones.specs.Nodes.{nodes}
 use Rattle.zones.specs.Slices.{given, passes, way_to, count}
@@ -26,10 +29,6 @@ use Rattle.lookup.proofs.PathLinksLaws.{path_links-walk, path_links-strings}
 use Rattle.listing.specs.Touring.{seek_from, start_on, Touring}
 use Rattle.listing.specs.Slicing.{refused_of, toured_of, started_from, sliding_of, slice_on, resume_of}
 use Rattle.listing.specs.Resting.{path_links_of, slice_links}
-use Rattle.listing.specs.declared.Resume.{Resume}
-use Rattle.listing.specs.declared.Resume.TheVariants.{Start, After}
-use Rattle.listing.specs.declared.Refused.{Refused}
-use Rattle.listing.specs.declared.Refused.TheVariants as refused
 use Rattle.listing.proofs.Items.{Item, items, up_to}
 use Rattle.listing.proofs.SliceItemsLaws.{ahead, passes-items}
 use Rattle.listing.proofs.StartLaws.{Resumes, start_on_holds}
@@ -74,12 +73,12 @@ module _ (ws : List ℕ) where
 -- ---- slice_links
 
 module _ {ws : List ℕ} {m : Map} (h : Holds ws m) where
-  path_links_of-strings : (r : Resume) → map (string_at ws) (path_links_of h.tree r) ≡ way_to m (resume_of r)
-  path_links_of-strings Start = refl
-  path_links_of-strings (After k) = path_links-strings h (string_of k)
+  path_links_of-strings : (r : Option Prefix) → map (string_at ws) (path_links_of h.tree r) ≡ way_to m (resume_of r)
+  path_links_of-strings None = refl
+  path_links_of-strings (Some k) = path_links-strings h (string_of k)
 
   -- they are the links of the nodes that a slice counts
-  pub slice_links-strings : (r : Resume) (b : ℕ)
+  pub slice_links-strings : (r : Option Prefix) (b : ℕ)
       → map (λ a. string_of (key_of (record_at ws a))) (slice_links h.tree r b) ≡ counted_nodes m (resume_of r) b
   unfolding slice_links counted_nodes
   slice_links-strings r b =
@@ -91,23 +90,23 @@ module _ {ws : List ℕ} {m : Map} (h : Holds ws m) where
       ∙ ap₂ ◌++◌ (path_links_of-strings r) (here ∙ ap (λ (n : Map). keep (passing n) (nodes (keys n))) h.map_is)
 
   -- and as many as it counts
-  pub length-slice_links : (r : Resume) (b : ℕ) → length (slice_links h.tree r b) ≡ count m (resume_of r) b
+  pub length-slice_links : (r : Option Prefix) (b : ℕ) → length (slice_links h.tree r b) ≡ count m (resume_of r) b
   length-slice_links r b =
       sym (length-map (slice_links h.tree r b) (string_at ws)) ∙ ap length (slice_links-strings r b) ∙ length-counted_nodes m (resume_of r) b
 
 -- ---- slice_on
 
-start_on_rests : (ws us : List ℕ) (r : Resume) (m : Map) (h : Holds ws m) → Resumes r → Agree us ws (path_links_of h.tree r) → (ls : List ℕ)
+start_on_rests : (ws us : List ℕ) (r : Option Prefix) (m : Map) (h : Holds ws m) → Resumes r → Agree us ws (path_links_of h.tree r) → (ls : List ℕ)
     → start_on us r ls ≡ start_on ws r ls
 unfolding seek_from
-start_on_rests ws us Start m h v agree ls = rw agree.same_header
-start_on_rests ws us (After k) m h v agree ls =
+start_on_rests ws us None m h v agree ls = rw agree.same_header
+start_on_rests ws us (Some k) m h v agree ls =
     rw agree.same_header
     (seek_on_rests us ws agree.same_length k v h.tree [] 130 0 0 ls 0 (header_at ws).root h.good
     (record { linked = h.linked; sound = labels-room h }) tt refl
     (rw (path_links-walk h.tree (string_of k) h.good) at agree.same_records))
 
-module _ (ws us : List ℕ) (r : Resume) (b : ℕ) (vs : List ℕ) (m : Map) (h : Holds ws m) (agree : Agree us ws (slice_links h.tree r b)) where
+module _ (ws us : List ℕ) (r : Option Prefix) (b : ℕ) (vs : List ℕ) (m : Map) (h : Holds ws m) (agree : Agree us ws (slice_links h.tree r b)) where
   -- the stack before the way, and the links of the nodes passed
   abbrev blank : List ℕ
   blank = replicate 129 0
@@ -139,19 +138,16 @@ module _ (ws us : List ℕ) (r : Resume) (b : ℕ) (vs : List ℕ) (m : Map) (h 
   started_from_rests : Resumes r → started_from us b vs (start_on us r blank) ≡ started_from ws b vs (start_on ws r blank)
   started_from_rests v =
       let s = start_on_holds ws m h blank refl r v in
-      let tour = tour_from_rests us ws agree.same_length b s.next s.depth (start_on ws r blank).links vs s.t s.ts s.pending
+      let tour = tour_from_rests us ws agree.same_length b s.next (start_on ws r blank).depth (start_on ws r blank).links vs s.t s.ts s.pending
       (rw s.items_is same-passed) in
       rw (start_on_rests ws us r m h v agree-path blank, s.found_is) (ap (λ (t : Touring). toured_of t s.number) tour)
 
-  sliding_of_rests : (x : Refused) → refused_of (length ws) r b (length vs) ≡ x → sliding_of us r b vs x ≡ sliding_of ws r b vs x
-  sliding_of_rests refused.BadLength e = refl
-  sliding_of_rests refused.BadPrefix e = refl
-  sliding_of_rests refused.BadSize e = refl
-  sliding_of_rests refused.ShortOut e = refl
-  sliding_of_rests refused.No e = started_from_rests (refused_of_no (length ws) r b (length vs) e).resumes
+  sliding_of_rests : (x : Result (Unit {0}) Refusal) → refused_of (length ws) r b (length vs) ≡ x → sliding_of us r b vs x ≡ sliding_of ws r b vs x
+  sliding_of_rests (Err x) e = refl
+  sliding_of_rests (Ok u) e = started_from_rests (refused_of_no (length ws) r b (length vs) e).resumes
 
 -- a slice reads the header and the records of the nodes that it counts, and no other
-pub slice_on_rests : (ws us : List ℕ) (r : Resume) (b : ℕ) (vs : List ℕ) (m : Map) → (h : Holds ws m) → Agree us ws (slice_links h.tree r b)
+pub slice_on_rests : (ws us : List ℕ) (r : Option Prefix) (b : ℕ) (vs : List ℕ) (m : Map) → (h : Holds ws m) → Agree us ws (slice_links h.tree r b)
     → slice_on us r b vs ≡ slice_on ws r b vs
 unfolding slice_on
 slice_on_rests ws us r b vs m h agree =

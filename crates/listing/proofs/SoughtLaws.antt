@@ -7,6 +7,7 @@ use mathlib.Core.Path.{◌≡◌, refl, ap, ap₂, ◌∙◌, subst}
 use mathlib.Core.Bool.{Bool, true, false, not, cond}
 use mathlib.Core.List.{List, [], ◌∷◌, ◌++◌}
 use mathlib.Core.Option.{Option}
+use Rattle.std.specs.Prelude.{Ok}
 use lib.Dec.{T, ltb}
 use lib.ListN.{length, length-append}
 use borrow.Author.Tests.{lt-ltb, le-ltb}
@@ -26,7 +27,7 @@ use Rattle.records.specs.Holds.{Bears}
 use Rattle.records.specs.declared.Record.{Record}
 use Rattle.lookup.proofs.StepsLaws.{get_or_next, width-bears, narrow-bears}
 use Rattle.listing.specs.Touring.{parted_of, passed_of, sought_of, sought_on}
-use Rattle.listing.specs.declared.Sought.TheVariants as sought
+use Rattle.listing.specs.declared.way.Sought.TheVariants.{On, Done}
 use Rattle.listing.proofs.Items.{Item, items}
 use Rattle.listing.proofs.SliceItemsLaws.{begin-items}
 
@@ -107,20 +108,20 @@ module _ {ws : List ℕ} {k : Prefix} {a low : ℕ} {z : Bits} {v : Option ℕ} 
   width_key : length key ≡ k.width
   width_key = length-string_of k m.valid.narrow
 
-  sought_on_at : sought_on ws k a low ≡ cond (ltb shared (length z)) (parted_of k a shared) (passed_of here k (length z))
+  sought_on_at : sought_on ws k a low ≡ cond (ltb shared (length z)) (Ok (parted_of k a shared)) (Ok (passed_of here k (length z)))
   unfolding sought_on sought_of
   sought_on_at =
       let w : here.tag / 2 ≡ length z = width-bears here z v m.bears in
       let n : length z ≤ 128 = omega (arith, narrow-bears here z v m.bears) in
       rw (m.room, m.bears.string, w, le-ltb 128 (length z) n, le-ltb shared low m.shares)
 
-  sought_on_off : shared < length z → sought_on ws k a low ≡ parted_of k a shared
+  sought_on_off : shared < length z → sought_on ws k a low ≡ Ok (parted_of k a shared)
   sought_on_off h = sought_on_at ∙ rw (lt-ltb shared (length z) h)
 
-  sought_on_on : T (is_prefix z key) → sought_on ws k a low ≡ passed_of here k (length z)
+  sought_on_on : T (is_prefix z key) → sought_on ws k a low ≡ Ok (passed_of here k (length z))
   sought_on_on h = sought_on_at ∙ rw (lcp-prefix z key h, le-ltb (length z) (length z) (omega arith))
 
-  pub sought_on_above : (x : Bool) → Says (Above x) z key → sought_on ws k a low ≡ sought.Done a 0
+  pub sought_on_above : (x : Bool) → Says (Above x) z key → sought_on ws k a low ≡ Ok (Done a 0)
   unfolding parted_of
   sought_on_above x y =
       let n : length (key ++ (x ∷ [])) ≤ length z = is_prefix_length (key ++ (x ∷ [])) z y in
@@ -129,7 +130,7 @@ module _ {ws : List ℕ} {k : Prefix} {a low : ℕ} {z : Bits} {v : Option ℕ} 
       sought_on_off (omega (arith, ap length e, length-append key (x ∷ [])))
       ∙ rw (e, width_key, le-ltb k.width k.width (omega arith))
 
-  pub sought_on_apart : (x : Bool) → Says (Apart x) z key → sought_on ws k a low ≡ sought.Done (cond x 0 a) 0
+  pub sought_on_apart : (x : Bool) → Says (Apart x) z key → sought_on ws k a low ≡ Ok (Done (cond x 0 a) 0)
   unfolding parted_of
   sought_on_apart x y =
       let p : Bits = lcp z key in
@@ -137,28 +138,28 @@ module _ {ws : List ℕ} {k : Prefix} {a low : ℕ} {z : Bits} {v : Option ℕ} 
       let i : length (p ++ (x ∷ [])) ≤ length key = is_prefix_length (p ++ (x ∷ [])) key y.0 in
       let l : length p < k.width = omega (arith, length-append p (x ∷ []), width_key) in
       sought_on_off (omega (arith, length-append p (not x ∷ [])))
-      ∙ rw (lt-ltb (length p) k.width l, get_or_next p key x y.0) (at x)
+      ∙ rw (lt-ltb (length p) k.width l, get_or_next p key x y.0) (ap Ok (at x))
     where
-      at : (x : Bool) → cond x (sought.Done 0 0) (sought.Done a 0) ≡ sought.Done (cond x 0 a) 0
+      at : (x : Bool) → cond x (Done 0 0) (Done a 0) ≡ Done (cond x 0 a) 0
       at true = refl
       at false = refl
 
-  pub sought_on-equal : Says Equal z key → sought_on ws k a low ≡ sought.Done here.left here.right
+  pub sought_on-equal : Says Equal z key → sought_on ws k a low ≡ Ok (Done here.left here.right)
   unfolding passed_of
   sought_on-equal y =
       sought_on_on (subst (λ (q : Bits). T (is_prefix z q)) y (is_prefix_refl z))
       ∙ rw (le-ltb (length z) k.width (omega (arith, ap length y, width_key)))
 
   pub sought_on_below : (x : Bool) → Says (Below x) z key
-      → sought_on ws k a low ≡ sought.On (cond x here.right here.left) (length z + 1) (cond x 0 here.right)
+      → sought_on ws k a low ≡ Ok (On (cond x here.right here.left) (length z + 1) (cond x 0 here.right))
   unfolding passed_of
   sought_on_below x y =
       let n : length (z ++ (x ∷ [])) ≤ length key = is_prefix_length (z ++ (x ∷ [])) key y in
       let l : length z < k.width = omega (arith, length-append z (x ∷ []), width_key) in
       sought_on_on (is_prefix_trans z (z ++ (x ∷ [])) key (is_prefix-append z (x ∷ [])) y)
-      ∙ rw (lt-ltb (length z) k.width l, get_or_next z key x y) (at x)
+      ∙ rw (lt-ltb (length z) k.width l, get_or_next z key x y) (ap Ok (at x))
     where
-      at : (x : Bool) → cond x (sought.On here.right (length z + 1) 0) (sought.On here.left (length z + 1) here.right)
-          ≡ sought.On (cond x here.right here.left) (length z + 1) (cond x 0 here.right)
+      at : (x : Bool) → cond x (On here.right (length z + 1) 0) (On here.left (length z + 1) here.right)
+          ≡ On (cond x here.right here.left) (length z + 1) (cond x 0 here.right)
       at true = refl
       at false = refl

@@ -1,38 +1,34 @@
--- The laws of the stack of open links: one for each way out of its functions. No contract cites this file.
+-- The laws of the stack of open links: whether it has room, and how many are open. No contract cites this file.
 -- Assumes nothing.
-use Prim.Native.Nat.{ℕ, ◌+◌, ◌-◌, ◌≤◌, ◌<◌}
-use mathlib.Core.Path.{◌≡◌}
+use Prim.Native.Nat.{ℕ, ◌+◌, ◌≤◌, ◌<◌}
+use native.Mathlib.Omega.{arith}
+use mathlib.Core.Path.{◌≡◌, refl}
+use mathlib.Core.Bool.{Bool, true, false, cond}
 use mathlib.Core.List.{List}
-use lib.ListN.{get_or, set}
-use borrow.Author.Tests.{le-leb, lt-leb, eq-eqb, ne_eqb}
-use Rattle.listing.specs.Touring.{push_on, pop_on}
+use Rattle.std.specs.Prelude.{Result, Ok, Err}
+use lib.Dec.{ltb, leb, eqb}
+use lib.ListN.{set}
+use borrow.Author.Tests.{ltb-true, leb-true}
+use Rattle.refusals.specs.declared.Refusal.{Refusal}
+use Rattle.refusals.specs.declared.Refusal.TheVariants.{Damaged}
+use Rattle.listing.specs.Touring.{Stack, push_on, room_on}
 
--- ---- push_on
+pub stack_is : (s : Stack) (ls : List ℕ) (o : ℕ) → ls ≡ s.links → o ≡ s.depth → s ≡ record { links = ls; depth = o }
+stack_is s ls o e h = rw (e, h)
 
-module _ (ls : List ℕ) (o l : ℕ) where
-  pub push_on-none : l ≡ 0 → push_on ls o l ≡ record { links = ls; depth = o }
-  unfolding push_on
-  push_on-none h = simp (eq-eqb _ _ h)
+pub room_on-full : (o : ℕ) (e : Refusal) → Err e ≡ room_on o → (129 < o) × (e ≡ Damaged)
+room_on-full o e = at (ltb 129 o) refl
+  where
+    at : (b : Bool) → ltb 129 o ≡ b → Err e ≡ cond {A = Result (Unit {0}) Refusal} b (Err Damaged) (Ok tt) → (129 < o) × (e ≡ Damaged)
+    at true f h = (ltb-true 129 o f, cc)
+    at false f h = cc
 
-  pub push_on_full : (l ≡ 0 → ⊥) → 129 ≤ o → push_on ls o l ≡ record { links = ls; depth = 130 }
-  unfolding push_on
-  push_on_full h g = simp (ne_eqb _ _ h, le-leb _ _ g)
-
-  pub push_on-room : (l ≡ 0 → ⊥) → o < 129 → push_on ls o l ≡ record { links = set ls o l; depth = o + 1 }
-  unfolding push_on
-  push_on-room h g = simp (ne_eqb _ _ h, lt-leb _ _ g)
-
--- ---- pop_on
-
-module _ (ls : List ℕ) (at o : ℕ) where
-  pub pop_on-given : (at ≡ 0 → ⊥) → record { next = at; depth = o } ≡ pop_on ls at o
-  unfolding pop_on
-  pop_on-given h = simp (ne_eqb _ _ h)
-
-  pub pop_on-none : at ≡ 0 → o ≡ 0 → record { next = 0; depth = o } ≡ pop_on ls at o
-  unfolding pop_on
-  pop_on-none h g = simp (eq-eqb _ _ h, eq-eqb _ _ g)
-
-  pub pop_on-last : at ≡ 0 → (o ≡ 0 → ⊥) → record { next = get_or ls (o - 1) 0; depth = o - 1 } ≡ pop_on ls at o
-  unfolding pop_on
-  pop_on-last h g = simp (eq-eqb _ _ h, ne_eqb _ _ g)
+pub depth-push_on : (ls : List ℕ) (o l : ℕ) → o ≤ 128 → (push_on ls o l).depth ≤ o + 1
+unfolding push_on
+depth-push_on ls o l h = at (eqb l 0) (leb 129 o) refl
+  where
+    at : (a b : Bool) → leb 129 o ≡ b
+        → (cond {A = Stack} a (record { links = ls; depth = o }) (cond b (record { links = ls; depth = 130 }) (record { links = set ls o l; depth = o + 1 }))).depth ≤ o + 1
+    at true b f = omega arith
+    at false true f = absurd (omega (arith, leb-true 129 o f))
+    at false false f = omega arith

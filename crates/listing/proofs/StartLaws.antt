@@ -8,6 +8,7 @@ use native.Mathlib.Omega.{arith}
 use mathlib.Core.Path.{◌≡◌, refl, sym, ap, ◌∙◌}
 use mathlib.Core.Bool.{true}
 use mathlib.Core.List.{List, [], ◌++◌, append-nil}
+use Rattle.std.specs.Prelude.{Option, None, Some}
 use lib.ListN.{length}
 use Rattle.bits.specs.Lists.{keep}
 use Rattle.bits.proofs.ListsLaws.{keep-every}
@@ -21,11 +22,8 @@ use Rattle.records.specs.Layout.{record_at, header_at}
 use Rattle.records.specs.Holds.{Holds}
 use Rattle.records.proofs.HoldsLaws.{labels-room}
 use Rattle.lookup.proofs.HoldsLaws.{path_holds}
-use Rattle.listing.specs.Touring.{seek_from, start_on}
+use Rattle.listing.specs.Touring.{starts, seek_from, start_on}
 use Rattle.listing.specs.Slicing.{resume_of}
-use Rattle.listing.specs.declared.Resume.{Resume}
-use Rattle.listing.specs.declared.Resume.TheVariants.{Start, After}
-use Rattle.listing.specs.declared.Seek.TheVariants as seek
 use Rattle.listing.proofs.Items.{items, all_items, height, Pending}
 use Rattle.listing.proofs.PushLaws.{height-linked}
 use Rattle.listing.proofs.SoughtLaws.{rest}
@@ -34,18 +32,17 @@ use Rattle.listing.proofs.SeekLaws.{seek_on-leads}
 -- ---- start_on
 
 -- what is needed of a resume: that its prefix is valid, if there is one
-abbrev pub Resumes : Resume → Type 0
-Resumes Start = Unit {0}
-Resumes (After k) = Valid k
+abbrev pub Resumes : Option Prefix → Type 0
+Resumes None = Unit {0}
+Resumes (Some k) = Valid k
 
-pub record Sought (ws : List ℕ) (m : Map) (h : Holds ws m) (r : Resume) (ls : List ℕ) : Type 0 where
+pub record Sought (ws : List ℕ) (m : Map) (h : Holds ws m) (r : Option Prefix) (ls : List ℕ) : Type 0 where
   pub next : ℕ
-  pub depth : ℕ
   pub number : ℕ
   pub t : Tree ℕ
   pub ts : List (Tree ℕ)
-  pub found_is : (start_on ws r ls).out ≡ seek.At next depth number
-  pub pending : Pending ws next (start_on ws r ls).links depth t ts
+  pub found_is : (start_on ws r ls).out ≡ starts next number
+  pub pending : Pending ws next (start_on ws r ls).links (start_on ws r ls).depth t ts
   pub items_is : items t ++ all_items ts ≡ keep (λ i. after (resume_of r) i.key) (items h.tree)
   pub number_is : number ≡ found m (resume_of r)
 
@@ -57,12 +54,11 @@ module _ (ws : List ℕ) (m : Map) (h : Holds ws m) (ls : List ℕ) (n : length 
       height-linked (record_at ws) (header_at ws).root [] h.tree (omega arith) h.good h.linked in
       record { linked = h.linked; sound = labels-room h; room = room; stacked = refl; length_is = n }
 
-  start_on_start : Sought ws m h Start ls
+  start_on_start : Sought ws m h None ls
   unfolding found
   start_on_start =
       record {
         next = (header_at ws).root;
-        depth = 0;
         number = 0;
         t = h.tree;
         ts = [];
@@ -72,23 +68,22 @@ module _ (ws : List ℕ) (m : Map) (h : Holds ws m) (ls : List ℕ) (n : length 
         number_is = refl;
       }
 
-  start_on-after : (k : Prefix) → Valid k → Sought ws m h (After k) ls
+  start_on-after : (k : Prefix) → Valid k → Sought ws m h (Some k) ls
   unfolding seek_from found
   start_on-after k v =
       let c = seek_on-leads ws k v h.tree [] 130 0 0 ls 0 (header_at ws).root [] h.good (record { linked = h.linked; sound = labels-room h })
       (record { prefix = tt; low_is = refl; fuel = omega arith; shallow = omega arith; stacked = refl; length_is = n }) in
       record {
         next = c.next;
-        depth = c.depth;
         number = length (walk h.tree (string_of k));
         t = c.tree;
         ts = c.trees;
-        found_is = c.out ∙ ap (seek.At c.next c.depth) (zero-add (length (walk h.tree (string_of k))));
+        found_is = c.out ∙ ap (starts c.next) (zero-add (length (walk h.tree (string_of k))));
         pending = c.pending;
         items_is = c.items_is ∙ append-nil (rest (string_of k) h.tree);
         number_is = ap length (sym (path_holds ws m h (string_of k)));
       }
 
-  pub start_on_holds : (r : Resume) → Resumes r → Sought ws m h r ls
-  start_on_holds Start v = start_on_start
-  start_on_holds (After k) v = start_on-after k v
+  pub start_on_holds : (r : Option Prefix) → Resumes r → Sought ws m h r ls
+  start_on_holds None v = start_on_start
+  start_on_holds (Some k) v = start_on-after k v

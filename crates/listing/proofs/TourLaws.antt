@@ -9,22 +9,21 @@ use mathlib.Core.Bool.{true, false, not}
 use mathlib.Core.List.Memᴰ
 use mathlib.Core.List.{List, [], ◌∷◌, ◌++◌, append_assoc}
 use mathlib.Core.Option.{Option, none, some}
+use Rattle.std.specs.Prelude.{Ok}
 use lib.Dec.{eqb-suc-zero}
 use lib.ListN.{length, get_or, take, drop, length-append, length-take}
 use lib.Seq.{take-nil, sets, sets-eq}
 use borrow.Author.Tests.{le-ltb, eq-eqb, ne_eqb}
 use Rattle.bits.specs.Lists.{is_empty}
 use Rattle.bits.specs.Bits.{Bits}
+use Rattle.prefix.proofs.WordsLaws.{Small}
 use Rattle.zones.specs.Maps.{Map}
 use Rattle.zones.specs.Tree.{Tree, tip, node, own}
-use Rattle.prefix.proofs.WordsLaws.{Small}
 use Rattle.records.specs.Layout.{room_of, record_at, key_of}
 use Rattle.records.specs.Holds.{Bears}
 use Rattle.records.specs.declared.Record.{Record}
-use Rattle.listing.specs.Touring.{push_on, pop_on, visit_on, entry_put, Touring, ends, node_on, turn_on, tour_on, tour_from}
+use Rattle.listing.specs.Touring.{gives, push_on, pop_on, visit_on, entry_put, Touring, ends, node_on, turn_on, tour_on, tour_from}
 use Rattle.listing.specs.Slicing.{words_of}
-use Rattle.listing.specs.declared.Toured.TheVariants as toured
-use Rattle.listing.specs.declared.Visit.TheVariants as visit
 use Rattle.listing.proofs.Items.{Item, items, all_items, stored_in, counts, up_to, past, Pending}
 use Rattle.listing.proofs.PendingLaws.{linked_above, pending-pop, pushed, all_items-pushed, pending-push}
 use Rattle.listing.proofs.EntriesLaws.{given-entry_put, words-entry_put}
@@ -40,7 +39,7 @@ unfolding record_at key_of
 small-record_at ws l h = (h _, h _, h _, h _)
 
 pub visit_on-bears : (ws : List ℕ) (l : ℕ) (s : Bits) (v : Option ℕ) → room_of (length ws) l ≡ true → Bears (record_at ws l) s v
-    → visit_on ws l ≡ visit.Node (record_at ws l)
+    → visit_on ws l ≡ Ok (record_at ws l)
 unfolding visit_on key_of
 visit_on-bears ws l s v e h =
     let most : (record_at ws l).tag ≤ 257 = omega (arith, h.valid.narrow) in
@@ -55,7 +54,7 @@ onward_on f ws b o ls us n count r =
     (entry_put us n r).given (count + 1)
 
 module _ (f : ℕ) (ws : List ℕ) (b : ℕ) (ls us : List ℕ) (n count : ℕ) where
-  pub tour_on_full : (l o : ℕ) → 0 < l → o ≤ 129 → n ≡ b → tour_on (suc f) ws b l o ls us n count ≡ ends ls us (toured.Done n true count)
+  pub tour_on_full : (l o : ℕ) → 0 < l → o ≤ 129 → n ≡ b → tour_on (suc f) ws b l o ls us n count ≡ ends ls us (gives n true count)
   unfolding tour_on turn_on pop_on
   tour_on_full l o h g e = simp (le-ltb 129 o g, ne_eqb l 0 (omega arith), eq-eqb n b e)
 
@@ -66,13 +65,13 @@ module _ (f : ℕ) (ws : List ℕ) (b : ℕ) (ls us : List ℕ) (n count : ℕ) 
   tour_on-pop o h g e =
       simp (le-ltb 129 o g, le-ltb 129 (o - 1) (omega arith), ne_eqb o 0 (omega arith), ne_eqb (get_or ls (o - 1) 0) 0 (omega arith))
 
-  pub tour_on_node : (l o : ℕ) (r : Record) → 0 < l → o ≤ 129 → n < b → visit_on ws l ≡ visit.Node r
+  pub tour_on_node : (l o : ℕ) (r : Record) → 0 < l → o ≤ 129 → n < b → visit_on ws l ≡ Ok r
       → tour_on (suc f) ws b l o ls us n count ≡ onward_on f ws b o ls us n count r
   unfolding tour_on turn_on pop_on node_on
   tour_on_node l o r h g m e = simp (le-ltb 129 o g, ne_eqb l 0 (omega arith), ne_eqb n b (omega arith), e)
 
 pub tour_on_empty : (f : ℕ) (ws : List ℕ) (b l o : ℕ) (ls us : List ℕ) (n count : ℕ) → l ≡ 0 → o ≡ 0
-    → tour_on f ws b l o ls us n count ≡ ends ls us (toured.Done n false count)
+    → tour_on f ws b l o ls us n count ≡ ends ls us (gives n false count)
 unfolding tour_on turn_on pop_on
 tour_on_empty zero ws b l o ls us n count h g = simp (h, g)
 tour_on_empty (suc f) ws b l o ls us n count h g = simp (h, g)
@@ -81,14 +80,14 @@ tour_on_empty (suc f) ws b l o ls us n count h g = simp (h, g)
 
 -- what a tour comes to with the items is before it, n entries given, c to give, and count nodes passed
 record Turns (ws : List ℕ) (c : ℕ) (us : List ℕ) (n count : ℕ) (is : List Item) (x : Touring) : Type 0 where
-  out : x.out ≡ toured.Done (n + length (take c (stored_in is))) (not (is_empty (past c is))) (count + length (up_to c is))
+  out : x.out ≡ gives (n + length (take c (stored_in is))) (not (is_empty (past c is))) (count + length (up_to c is))
   words : Machine ws → x.words ≡ sets us (6 * n) (words_of (take c (stored_in is)))
 
-turns_empty : (ws : List ℕ) (c : ℕ) (ls us : List ℕ) (n count : ℕ) → Turns ws c us n count [] (ends ls us (toured.Done n false count))
+turns_empty : (ws : List ℕ) (c : ℕ) (ls us : List ℕ) (n count : ℕ) → Turns ws c us n count [] (ends ls us (gives n false count))
 turns_empty ws c ls us n count = record { out = simp (take-nil, add-zero); words = λ h. simp take-nil }
 
 turns_full : (ws ls us : List ℕ) (n count : ℕ) (i : Item) (is : List Item)
-    → Turns ws 0 us n count (i ∷ is) (ends ls us (toured.Done n true count))
+    → Turns ws 0 us n count (i ∷ is) (ends ls us (gives n true count))
 turns_full ws ls us n count i is = record { out = simp add-zero; words = λ h. refl }
 
 take_own : (c : ℕ) (s : Bits) (v : Option ℕ) (m : Map) → take (suc c) (own s v ++ m) ≡ own s v ++ take (suc c - counts v) m
@@ -155,7 +154,7 @@ module _ (ws : List ℕ) (b : ℕ) where
     turns_node (suc c) count a s v x y ts p e h =
         let above = linked_above ws l (node a s v x y) tt p.linked p.sound in
         let bears = p.linked.1 in
-        let seen : visit_on ws l ≡ visit.Node (record_at ws a) =
+        let seen : visit_on ws l ≡ Ok (record_at ws a) =
         rw p.linked.0 (visit_on-bears ws a s v (p.sound a (Memᴰ.head refl)) bears) in
         rw (tour_on_node f ws b ls us n count l o (record_at ws a) above (omega (arith, p.room)) (omega arith) seen)
         (turns_step ws c us _ n _ count a s v (items x ++ items y ++ all_items ts) _ (given-entry_put us n (record_at ws a) s v bears)
@@ -186,7 +185,7 @@ module _ (ws : List ℕ) (b : ℕ) where
 -- ---- tour_from
 
 pub record Tours (b : ℕ) (us : List ℕ) (is : List Item) (x : Touring) : Type 0 where
-  pub out : x.out ≡ toured.Done (length (take b (stored_in is))) (not (is_empty (past b is))) (length (up_to b is))
+  pub out : x.out ≡ gives (length (take b (stored_in is))) (not (is_empty (past b is))) (length (up_to b is))
   pub words : x.words ≡ words_of (take b (stored_in is)) ++ drop (6 * length (take b (stored_in is))) us
 
 pub length-words_of : (m : Map) → length (words_of m) ≡ 6 * length m
@@ -206,7 +205,7 @@ module _ (ws : List ℕ) (b next d : ℕ) (ls us : List ℕ) (t : Tree ℕ) (ts 
   tour_from-turns = tour_on-turns ws b (length ws / 8) next d ls us 0 b 0 t ts p (zero-add b) few
 
   pub tour_from_out : (tour_from ws b next d ls us).out
-      ≡ toured.Done (length (take b (stored_in (items t ++ all_items ts)))) (not (is_empty (past b (items t ++ all_items ts))))
+      ≡ gives (length (take b (stored_in (items t ++ all_items ts)))) (not (is_empty (past b (items t ++ all_items ts))))
       (length (up_to b (items t ++ all_items ts)))
   tour_from_out = simp zero-add at tour_from-turns.out
 

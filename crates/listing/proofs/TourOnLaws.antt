@@ -5,35 +5,19 @@ use Prim.Native.Nat.{ℕ, zero, suc, ◌+◌, ◌-◌, ◌/◌, ◌%◌, ◌≤�
 use native.Mathlib.Nat.{le_refl, le_trans}
 use native.Mathlib.Omega.{arith}
 use mathlib.Core.Path.{◌≡◌, refl, sym, ap, subst, ◌∙◌}
-use mathlib.Core.Bool.{Bool, true, false, not, cond}
+use mathlib.Core.Bool.{Bool, true, false, cond}
 use mathlib.Core.List.{List}
+use Rattle.std.specs.Prelude.{Result, Ok, Err}
 use lib.Dec.{ltb, eqb}
 use lib.ListN.{length}
-use borrow.Author.Tests.{eqb-false, not-true, not-false, lt-ltb, le-ltb, eq-eqb, ne_eqb}
+use borrow.Author.Tests.{eqb-false, lt-ltb, le-ltb, eq-eqb, ne_eqb}
 use Rattle.bits.specs.Numbers.{odd}
+use Rattle.refusals.specs.declared.Refusal.{Refusal}
+use Rattle.refusals.specs.declared.Refusal.TheVariants.{Damaged}
 use Rattle.records.specs.Layout.{room_of, record_at}
 use Rattle.records.specs.declared.Record.{Record}
-use Rattle.listing.specs.Touring.{Stack, push_on, pop_on, visit_on, Entries, entry_set, entry_put, Touring, ends, node_on, turn_on, tour_on, tour_from}
-use Rattle.listing.specs.declared.Toured.{Toured}
-use Rattle.listing.specs.declared.Toured.TheVariants as toured
-use Rattle.listing.specs.declared.Visit.{Visit}
-use Rattle.listing.specs.declared.Visit.TheVariants as visit
-use Rattle.listing.specs.declared.Tour.{Tour}
-
--- ---- visit_on
-
-module _ (ws : List ℕ) (l : ℕ) (x : Bool) (e : x ≡ room_of (length ws) l) where
-  pub visit_on_outside : not x ≡ true → visit.Bad ≡ visit_on ws l
-  unfolding visit_on
-  visit_on_outside t = simp (← e, not-true x t)
-
-  pub visit_on_wide : (r : Record) → r ≡ record_at ws l → not x ≡ false → 257 < r.tag → visit.Bad ≡ visit_on ws l
-  unfolding visit_on
-  visit_on_wide r q t h = simp (← e, not-false x t, ← q, lt-ltb _ _ h)
-
-  pub visit_on_node : (r : Record) → r ≡ record_at ws l → not x ≡ false → r.tag ≤ 257 → visit.Node r ≡ visit_on ws l
-  unfolding visit_on
-  visit_on_node r q t h = simp (← e, not-false x t, ← q, le-ltb _ _ h)
+use Rattle.listing.specs.Touring.{gives, Stack, push_on, Tour, pop_on, visit_on, Entries, entry_set, entry_put, Touring, ends, node_on, turn_on, tour_on, tour_from}
+use Rattle.listing.specs.declared.Sliced.{Sliced}
 
 -- ---- entry_put
 
@@ -60,31 +44,31 @@ module _ (us : List ℕ) (n : ℕ) (r : Record) where
 -- ---- tour_on, where a tour that has the value v goes on, and may still pass f nodes
 
 module _ (ws : List ℕ) (b at o : ℕ) (ls us : List ℕ) (n count : ℕ) (v : Touring) where
-  pub tour_on_deep : (f : ℕ) → tour_on f ws b at o ls us n count ≡ v → 129 < o → v ≡ ends ls us toured.Bad
+  pub tour_on_deep : (f : ℕ) → tour_on f ws b at o ls us n count ≡ v → 129 < o → v ≡ ends ls us (Err Damaged)
   unfolding tour_on
   tour_on_deep zero i h = sym i ∙ simp (lt-ltb _ _ h)
   tour_on_deep (suc f) i h = sym i ∙ simp (lt-ltb _ _ h)
 
   -- and t is what it looks at
   module _ (t : Tour) (e : t ≡ pop_on ls at o) (h : o ≤ 129) where
-    pub tour_on_over : (f : ℕ) → tour_on f ws b at o ls us n count ≡ v → t.next ≡ 0 → v ≡ ends ls us (toured.Done n false count)
+    pub tour_on_over : (f : ℕ) → tour_on f ws b at o ls us n count ≡ v → t.next ≡ 0 → v ≡ ends ls us (gives n false count)
     unfolding tour_on turn_on
     tour_on_over zero i z = sym i ∙ simp (le-ltb _ _ h, ← e, eq-eqb _ _ z)
     tour_on_over (suc f) i z = sym i ∙ simp (le-ltb _ _ h, ← e, eq-eqb _ _ z)
 
-    pub tour_on_more : (f : ℕ) → tour_on f ws b at o ls us n count ≡ v → (t.next ≡ 0 → ⊥) → n ≡ b → v ≡ ends ls us (toured.Done n true count)
+    pub tour_on_more : (f : ℕ) → tour_on f ws b at o ls us n count ≡ v → (t.next ≡ 0 → ⊥) → n ≡ b → v ≡ ends ls us (gives n true count)
     unfolding tour_on turn_on
     tour_on_more zero i z q = sym i ∙ simp (le-ltb _ _ h, ← e, ne_eqb _ _ z, eq-eqb _ _ q)
     tour_on_more (suc f) i z q = sym i ∙ simp (le-ltb _ _ h, ← e, ne_eqb _ _ z, eq-eqb _ _ q)
 
-    pub tour_on-spent : (f : ℕ) → tour_on f ws b at o ls us n count ≡ v → (t.next ≡ 0 → ⊥) → (n ≡ b → ⊥) → f ≡ 0 → v ≡ ends ls us toured.Bad
+    pub tour_on-spent : (f : ℕ) → tour_on f ws b at o ls us n count ≡ v → (t.next ≡ 0 → ⊥) → (n ≡ b → ⊥) → f ≡ 0 → v ≡ ends ls us (Err Damaged)
     unfolding tour_on turn_on
     tour_on-spent f i z q s =
         sym i ∙ ap (λ (g : ℕ). tour_on g ws b at o ls us n count) s ∙ simp (le-ltb _ _ h, ← e, ne_eqb _ _ z, ne_eqb _ _ q)
 
     -- and may pass m nodes in all, and x is what it finds there
     module _ (m : ℕ) (i : tour_on (m - count) ws b at o ls us n count ≡ v) (z : t.next ≡ 0 → ⊥) (q : n ≡ b → ⊥) (s : count < m)
-        (x : Visit) (p : x ≡ visit_on ws t.next) where
+        (x : Result Record Refusal) (p : x ≡ visit_on ws t.next) where
       tour_on-turn : v
           ≡ node_on x ls us n t.depth (λ l s e. tour_on (m - (count + 1)) ws b l s.depth s.links e.words e.given (count + 1))
       unfolding tour_on turn_on
@@ -94,20 +78,34 @@ module _ (ws : List ℕ) (b at o : ℕ) (ls us : List ℕ) (n count : ℕ) (v : 
           ∙ ap (λ (g : ℕ). tour_on g ws b at o ls us n count) f
           ∙ simp (le-ltb _ _ h, ← e, ne_eqb _ _ z, ne_eqb _ _ q, ← p)
 
-      pub tour_on-bad : x ≡ visit.Bad → v ≡ ends ls us toured.Bad
+      pub tour_on-bad : (d : Refusal) → x ≡ Err d → v ≡ ends ls us (Err d)
       unfolding node_on
-      tour_on-bad y = tour_on-turn ∙ rw y
+      tour_on-bad d y = tour_on-turn ∙ rw y
 
-      pub tour_on_node : (r : Record) (ms : List ℕ) (d : ℕ) (ys : List ℕ) (j : ℕ) → x ≡ visit.Node r
+      pub tour_on_node : (r : Record) (ms : List ℕ) (d : ℕ) (ys : List ℕ) (j : ℕ) → x ≡ Ok r
           → push_on ls t.depth r.right ≡ record { links = ms; depth = d } → entry_put us n r ≡ record { words = ys; given = j }
           → tour_on (m - (count + 1)) ws b r.left d ms ys j (count + 1) ≡ v
       unfolding node_on
       tour_on_node r ms d ys j y k w = sym (tour_on-turn ∙ rw (y, k, w))
 
--- at most b entries are given, and at most so many nodes passed
-abbrev pub Within : ℕ → ℕ → Toured → Type 0
-Within b most (toured.Done n more count) = (n ≤ b) × (count ≤ most)
-Within b most toured.Bad = Unit {0}
+-- a record is read, or no table has the words
+abbrev Reads : Result Record Refusal → Type 0
+Reads (Ok r) = Unit {0}
+Reads (Err e) = e ≡ Damaged
+
+visit_on_reads : (ws : List ℕ) (l : ℕ) → Reads (visit_on ws l)
+unfolding visit_on
+visit_on_reads ws l = at (room_of (length ws) l) (ltb 257 (record_at ws l).tag)
+  where
+    at : (x y : Bool) → Reads (cond x (cond y (Err Damaged) (Ok (record_at ws l))) (Err Damaged))
+    at true true = refl
+    at true false = tt
+    at false y = refl
+
+-- at most b entries are given, and at most so many nodes passed, or no table has the words
+abbrev pub Within : ℕ → ℕ → Result Sliced Refusal → Type 0
+Within b most (Ok s) = (s.given ≤ b) × (s.count ≤ most)
+Within b most (Err e) = e ≡ Damaged
 
 module _ (ws : List ℕ) (b most : ℕ) (ls us : List ℕ) (n count : ℕ) (h : n ≤ b) where
   turn_on-within : (t : Tour) (onward : Touring) → count ≤ most → (n < b → Within b most onward.out)
@@ -116,34 +114,35 @@ module _ (ws : List ℕ) (b most : ℕ) (ls us : List ℕ) (n count : ℕ) (h : 
   turn_on-within t onward g rec = at (eqb t.next 0) (eqb n b) refl
     where
       at : (x y : Bool) → eqb n b ≡ y
-          → Within b most (cond x (ends ls us (toured.Done n false count)) (cond y (ends ls us (toured.Done n true count)) onward)).out
+          → Within b most (cond x (ends ls us (gives n false count)) (cond y (ends ls us (gives n true count)) onward)).out
       at true y p = (h, g)
       at false true p = (h, g)
       at false false p = rec (let q : n ≡ b → ⊥ = eqb-false _ _ p in omega arith)
 
-  node_on-within : (x : Visit) (o : ℕ) (go : ℕ → Stack → Entries → Touring) → n < b
+  node_on-within : (x : Result Record Refusal) (o : ℕ) (go : ℕ → Stack → Entries → Touring) → Reads x → n < b
       → ((l : ℕ) (s : Stack) (e : Entries) → e.given ≤ b → Within b most (go l s e).out) → Within b most (node_on x ls us n o go).out
   unfolding node_on
-  node_on-within (visit.Node r) o go g rec = rec r.left (push_on ls o r.right) (entry_put us n r) (le_trans (given-entry_put us n r) (omega arith))
-  node_on-within visit.Bad o go g rec = tt
+  node_on-within (Ok r) o go i g rec = rec r.left (push_on ls o r.right) (entry_put us n r) (le_trans (given-entry_put us n r) (omega arith))
+  node_on-within (Err e) o go i g rec = i
 
 deep-within : (b most : ℕ) (ls us : List ℕ) (v : Touring) (x : Bool) → Within b most v.out
-    → Within b most (cond x (ends ls us toured.Bad) v).out
-deep-within b most ls us v true h = tt
+    → Within b most (cond x (ends ls us (Err Damaged)) v).out
+deep-within b most ls us v true h = refl
 deep-within b most ls us v false h = h
 
 pub tour_on-within : (f : ℕ) (ws : List ℕ) (b at o : ℕ) (ls us : List ℕ) (n count most : ℕ) → n ≤ b → count + f ≤ most
     → Within b most (tour_on f ws b at o ls us n count).out
 unfolding tour_on
 tour_on-within zero ws b at o ls us n count most h g =
-    deep-within b most ls us (turn_on ws b (pop_on ls at o) ls us n count (ends ls us toured.Bad)) (ltb 129 o)
-    (turn_on-within ws b most ls us n count h (pop_on ls at o) (ends ls us toured.Bad) (omega arith) (λ l. tt))
+    deep-within b most ls us (turn_on ws b (pop_on ls at o) ls us n count (ends ls us (Err Damaged))) (ltb 129 o)
+    (turn_on-within ws b most ls us n count h (pop_on ls at o) (ends ls us (Err Damaged)) (omega arith) (λ l. refl))
 tour_on-within (suc f) ws b at o ls us n count most h g =
     let go : ℕ → Stack → Entries → Touring = λ l s e. tour_on f ws b l s.depth s.links e.words e.given (count + 1) in
     let on : Touring = node_on (visit_on ws (pop_on ls at o).next) ls us n (pop_on ls at o).depth go in
     deep-within b most ls us (turn_on ws b (pop_on ls at o) ls us n count on) (ltb 129 o)
     (turn_on-within ws b most ls us n count h (pop_on ls at o) on (omega arith)
-    (λ l. node_on-within ws b most ls us n count h (visit_on ws (pop_on ls at o).next) (pop_on ls at o).depth go l
+    (λ l. node_on-within ws b most ls us n count h (visit_on ws (pop_on ls at o).next) (pop_on ls at o).depth go
+    (visit_on_reads ws (pop_on ls at o).next) l
     (λ l s e y. tour_on-within f ws b l s.depth s.links e.words e.given (count + 1) most y (omega arith))))
 
 -- ---- tour_from

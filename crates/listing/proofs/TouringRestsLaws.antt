@@ -9,6 +9,7 @@ use mathlib.Core.Path.{◌≡◌, refl, sym, ◌∙◌}
 use mathlib.Core.Bool.{Bool, true, false}
 use mathlib.Core.List.{List, [], ◌∷◌, ◌++◌, map, append_assoc, Memᴰ}
 use mathlib.Core.Option.{Option}
+use Rattle.std.specs.Prelude.{Ok}
 use lib.Dec.{T, eqb-suc-zero}
 use lib.ListN.{length, get_or, length-append}
 use Rattle.bits.specs.Bits.{Bits, is_prefix, lcp}
@@ -24,8 +25,7 @@ use Rattle.zones.specs.Searching.{onward}
 use Rattle.records.specs.Layout.{record_at}
 use Rattle.lookup.proofs.PathLinksLaws.{walk_links}
 use Rattle.listing.specs.Touring.{push_on, sought_on, Seeking, after_on, seek_on, visit_on, entry_put, turn_on, tour_on, tour_from}
-use Rattle.listing.specs.declared.Sought.TheVariants as sought
-use Rattle.listing.specs.declared.Visit.TheVariants as visit
+use Rattle.listing.specs.declared.way.Sought.TheVariants.{On, Done}
 use Rattle.listing.proofs.Items.{Item, items, all_items, counts, up_to, Pending}
 use Rattle.listing.proofs.PendingLaws.{linked_above, pending-pop, pushed, all_items-pushed, pending-push}
 use Rattle.listing.proofs.EntriesLaws.{given-entry_put}
@@ -75,7 +75,7 @@ module _ (us ws : List ℕ) (length-same : length us ≡ length ws) where
       rests_step c count a s v x y ts p above e same =
           let room : o ≤ 129 = omega (arith, p.room) in
           let left : n < b = omega arith in
-          let seen : visit_on ws l ≡ visit.Node (record_at ws a) =
+          let seen : visit_on ws l ≡ Ok (record_at ws a) =
           rw p.linked.0 (visit_on-bears ws a s v (p.sound a (Memᴰ.head refl)) p.linked.1) in
           let here : record_at us l ≡ record_at ws l = rw p.linked.0 (same a (Memᴰ.head refl)) in
           tour_on_node f us b ls vs n count l o (record_at ws a) above room left (visit_on_same l here ∙ seen)
@@ -148,11 +148,11 @@ module _ (us ws : List ℕ) (length-same : length us ≡ length ws) where
             shares = omega (arith, is_prefix_length p (lcp z key) (lcp-greatest p z key g.0 begins));
           }
 
-      goes_done : (next side : ℕ) → sought_on ws k a low ≡ sought.Done next side → goes us ≡ goes ws
+      goes_done : (next side : ℕ) → sought_on ws k a low ≡ Ok (Done next side) → goes us ≡ goes ws
       unfolding after_on
       goes_done next side q = rw q
 
-      goes_below : (x : Bool) (next side : ℕ) (t : Tree ℕ) → Seeks t → sought_on ws k a low ≡ sought.On next (length z + 1) side
+      goes_below : (x : Bool) (next side : ℕ) (t : Tree ℕ) → Seeks t → sought_on ws k a low ≡ Ok (On next (length z + 1) side)
           → Says (Below x) z key → Good (z ++ (x ∷ [])) t → Leads ws next t → Same (a ∷ walk_links t key) → goes us ≡ goes ws
       unfolding after_on
       goes_below x next side t seeks q y good leads same =

@@ -1,37 +1,47 @@
-// The stack of open links.
-ghost use Rattle.std.specs.Prelude.{◌≤◌, ◌≡◌};
-ghost use Rattle.listing.specs.Touring.{push_on, pop_on};
+// The links left open: a stack of as many as the tree of a table may need, the first `depth` of `open`.
+// A link is 0 for none, as in a table.
+ghost use Rattle.std.specs.Prelude.{◌≤◌, ◌≡◌, IsOk};
+ghost use Rattle.listing.specs.Touring.{push_on, pop_on, room_on};
 
-use crate::Tour;
+use refusals::Refusal;
 
-// The stack with the link l on it, if that is not 0: how many links are then open. 130 where there
-// is no room, which no table needs.
-pub(crate) fn push(stack: &mut [u32; 129], depth: usize, l: u32) -> usize
-    ensures { push_on stack.old depth l ≡ record { links = stack.new; depth = result } }
-{
-    if l == 0 {
-        return depth;
-    }
-    if 129 <= depth {
-        return 130;
-    }
-    stack[depth] = l;
-    depth + 1
+#[derive(Drop)]
+pub(crate) struct Links {
+    pub(crate) open: [u32; 129],
+    pub(crate) depth: usize,
+    ghost within: { depth ≤ 129 },
 }
 
-// The link to look at: the given one, or else the last that was left open; 0 where there is none.
-pub(crate) fn pop(stack: &[u32; 129], at: u32, depth: usize) -> Tour
-    requires { depth ≤ 129 }
-    ensures { result ≡ pop_on stack.now at depth }
-{
-    if at != 0 {
-        return Tour { next: at, depth };
+impl Links {
+    // Leaves the link l open, if there is one. Damaged where there is no room, which no table needs.
+    #[tactic(auto, unfolding(crate::specs::Touring::push_on))]
+    pub(crate) fn push(&mut self, l: u32) -> Result<(), Refusal>
+        ensures answer { result ≡ room_on (push_on self.old.open self.old.depth l).depth }
+        ensures open { self.new.open ≡ (push_on self.old.open self.old.depth l).links }
+        ensures depth { IsOk result → self.new.depth ≡ (push_on self.old.open self.old.depth l).depth }
+    {
+        if l == 0 {
+            return Ok(());
+        }
+        let top = self.depth;
+        if top == self.open.len() {
+            return Err(Refusal::Damaged);
+        }
+        self.open[top] = l;
+        self.depth = top + 1;
+        Ok(())
     }
-    if depth == 0 {
-        return Tour { next: 0, depth };
-    }
-    Tour {
-        next: stack[depth - 1],
-        depth: depth - 1,
+
+    // The link to look at: the given one, or else the last that was left open.
+    #[tactic(auto, unfolding(crate::specs::Touring::pop_on))]
+    pub(crate) fn next(&mut self, l: u32) -> u32
+        ensures answer { pop_on self.old.open l self.old.depth ≡ record { next = result; depth = self.new.depth } }
+        ensures open { self.new.open ≡ self.old.open }
+    {
+        if l != 0 || self.depth == 0 {
+            return l;
+        }
+        self.depth -= 1;
+        self.open[self.depth]
     }
 }

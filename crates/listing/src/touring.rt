@@ -2,68 +2,67 @@
 ghost use Rattle.std.specs.Prelude.{◌+◌, ◌*◌, ◌≤◌, ◌<◌, ◌≡◌, length};
 ghost use Rattle.listing.specs.Touring.{visit_on, entry_put, tour_from};
 
-use crate::links::{pop, push};
-use crate::{Toured, Visit};
+use crate::Sliced;
+use crate::links::Links;
 use records::Record;
+use refusals::Refusal;
 
-// Lists the nodes from `next` on, and then from the open links, until `size` entries are given. It
-// passes at most as many nodes as the table has records.
-pub(crate) fn tour_on(
+// Lists the nodes from `start` on, and then from the open links, until `size` entries are given: how
+// many it gave, whether more remain, and how many nodes it passed. These are at most as many as the
+// table has records.
+pub(crate) fn tour(
     table: &[u32],
     size: u32,
-    next: u32,
-    depth: usize,
-    stack: &mut [u32; 129],
+    start: u32,
+    links: &mut Links,
     out: &mut [u32],
-) -> Toured
+) -> Result<Sliced, Refusal>
     requires { (6 * size ≤ length out.old) × (size ≤ 4096) × (16 ≤ length table.now) × (length table.now ≤ 524288) }
-    ensures { tour_from table.now size next depth stack.old out.old ≡ record { links = stack.new; words = out.new; out = result } }
+    ensures { tour_from table.now size start links.old.depth links.old.open out.old ≡ record { links = links.new.open; words = out.new; out = result } }
 {
-    let budget = (table.len() / 8) as u32;
-    let mut at = next;
-    let mut o = depth;
-    let mut n: u32 = 0;
-    let mut count: u32 = 0;
-    loop {
-        if 129 < o {
-            return Toured::Bad;
+    let budget = (table.len() / records::RECORD) as u32;
+    let mut next = start;
+    let mut given: u32 = 0;
+    for count in 0..=budget {
+        let l = links.next(next);
+        if l == 0 {
+            return Ok(Sliced {
+                given,
+                more: false,
+                count,
+            });
         }
-        let t = pop(stack, at, o);
-        if t.next == 0 {
-            return Toured::Done(n, false, count);
-        }
-        if n == size {
-            return Toured::Done(n, true, count);
+        if given == size {
+            return Ok(Sliced {
+                given,
+                more: true,
+                count,
+            });
         }
         if count == budget {
-            return Toured::Bad;
+            break;
         }
-        let x = visit_at(table, t.next);
-        match x {
-            Visit::Bad => {
-                return Toured::Bad;
-            }
-            Visit::Node(r) => {
-                count += 1;
-                n = put_entry(out, n, r);
-                o = push(stack, t.depth, r.right);
-                at = r.left;
-            }
-        }
+        let r = visit_at(table, l)?;
+        given = put_entry(out, given, r);
+        links.push(r.right)?;
+        next = r.left;
     }
+    Err(Refusal::Damaged)
 }
 
-fn visit_at(table: &[u32], l: u32) -> Visit
+// The record of a node.
+#[tactic(auto, unfolding(crate::specs::Touring::visit_on))]
+fn visit_at(table: &[u32], l: u32) -> Result<Record, Refusal>
     ensures { result ≡ visit_on table.now l }
 {
     if !records::has_room(table.len(), l) {
-        return Visit::Bad;
+        return Err(Refusal::Damaged);
     }
     let r = records::read_record(table, l);
     if 257 < r.tag {
-        return Visit::Bad;
+        return Err(Refusal::Damaged);
     }
-    Visit::Node(r)
+    Ok(r)
 }
 
 // Writes the entry of a stored node as the n-th, and answers how many are then given.
@@ -75,6 +74,7 @@ fn put_entry(out: &mut [u32], n: u32, r: Record) -> u32
         return n;
     }
     let at = 6 * (n as usize);
+    // Stays: `copy_from_slice` first puts the six words on the stack, nine instructions more an entry.
     out[at] = r.w0;
     out[at + 1] = r.w1;
     out[at + 2] = r.w2;

@@ -3,100 +3,118 @@ ghost use Rattle.std.specs.Prelude.{◌≤◌, ◌≡◌, length};
 ghost use Rattle.listing.specs.Touring.{parted_of, sought_of, sought_on, seek_from, start_on};
 ghost use Rattle.listing.specs.Bounds.{Narrow};
 
-use crate::links::push;
-use crate::{Resume, Seek, Sought};
-use prefix::Prefix;
+use crate::links::Links;
+use prefix::{Key, Prefix};
 use records::Record;
+use refusals::Refusal;
+
+// Where the tour starts: the link to look at first, and how many nodes the resume's path has. A link stays a number
+// here and below: 0 is none in the table's own words.
+#[derive(Clone, Copy, Debug, PartialEq, Eq)]
+pub(crate) struct Seek {
+    pub(crate) next: u32,
+    pub(crate) found: u32,
+}
+
+// One step on the way to the resume prefix: go on to a link, which must share so many bits with it,
+// or be done with a link to start from; and the side to keep open (0 for none).
+#[derive(Clone, Copy, Debug, PartialEq, Eq)]
+enum Sought {
+    On(u32, u32, u32),
+    Done(u32, u32),
+}
 
 // Where the tour starts: at the top, or after the path of the resume prefix.
-pub(crate) fn begin(table: &[u32], resume: Resume, stack: &mut [u32; 129]) -> Seek
-    requires { (16 ≤ length table.now) × Narrow resume }
-    ensures { start_on table.now resume stack.old ≡ record { links = stack.new; out = result } }
+pub(crate) fn begin(
+    table: &[u32],
+    resume: Option<Prefix>,
+    links: &mut Links,
+) -> Result<Seek, Refusal>
+    requires { (16 ≤ length table.now) × Narrow resume × (links.old.depth ≡ 0) }
+    ensures { start_on table.now resume links.old.open ≡ record { links = links.new.open; depth = links.new.depth; out = result } }
 {
     let h = records::read_header(table);
     match resume {
-        Resume::Start => Seek::At(h.root, 0, 0),
-        Resume::After(k) => seek_from(table, k, h.root, stack),
+        None => Ok(Seek {
+            next: h.root,
+            found: 0,
+        }),
+        Some(k) => seek_from(table, Key { prefix: k }, h.root, links),
     }
 }
 
-// Walks the path of k, and keeps open each side that lies after k.
-fn seek_from(table: &[u32], k: Prefix, root: u32, stack: &mut [u32; 129]) -> Seek
-    requires { k.width ≤ 128 }
-    ensures { seek_from table.now k root stack.old ≡ record { links = stack.new; out = result } }
+// Walks the path of k, and keeps open each side that lies after k. Stays a loop left by break, which
+// yields the link to start from: that is the form that paper 01 names.
+fn seek_from(table: &[u32], k: Key, root: u32, links: &mut Links) -> Result<Seek, Refusal>
+    requires { links.old.depth ≡ 0 }
+    ensures { seek_from table.now k.prefix root links.old.open ≡ record { links = links.new.open; depth = links.new.depth; out = result } }
 {
     let mut next = root;
     let mut low: u32 = 0;
-    let mut depth: usize = 0;
     let mut found: u32 = 0;
-    loop {
+    let start = loop {
         if next == 0 {
-            break Seek::At(0, depth, found);
+            break 0;
         }
-        let x = sought_at(table, k, next, low);
+        let x = sought_at(table, k, next, low)?;
+        found += 1;
         match x {
-            Sought::Bad => {
-                break Seek::Bad;
-            }
             Sought::Done(l, side) => {
-                let o = push(stack, depth, side);
-                break Seek::At(l, o, found + 1);
+                links.push(side)?;
+                break l;
             }
             Sought::On(l, w, side) => {
-                depth = push(stack, depth, side);
+                links.push(side)?;
                 next = l;
                 low = w;
-                found += 1;
             }
         }
-    }
+    };
+    Ok(Seek { next: start, found })
 }
 
 // One step of that walk, at the link l.
-fn sought_at(table: &[u32], k: Prefix, l: u32, low: u32) -> Sought
-    requires { k.width ≤ 128 }
-    ensures { result ≡ sought_on table.now k l low }
+#[tactic(auto, unfolding(crate::specs::Touring::sought_on))]
+fn sought_at(table: &[u32], k: Key, l: u32, low: u32) -> Result<Sought, Refusal>
+    ensures { result ≡ sought_on table.now k.prefix l low }
 {
     if !records::has_room(table.len(), l) {
-        return Sought::Bad;
+        return Err(Refusal::Damaged);
     }
     sought_by(records::read_record(table, l), k, l, low)
 }
 
-fn sought_by(r: Record, k: Prefix, l: u32, low: u32) -> Sought
-    requires { k.width ≤ 128 }
-    ensures { result ≡ sought_of r k l low }
+fn sought_by(r: Record, k: Key, l: u32, low: u32) -> Result<Sought, Refusal>
+    ensures { result ≡ sought_of r k.prefix l low }
 {
     let w = r.tag / 2;
     if 128 < w {
-        return Sought::Bad;
+        return Err(Refusal::Damaged);
     }
-    let b = prefix::shared(records::key_of(r), k);
+    let b = prefix::shared(records::key_of(r), k.prefix);
     if b < low {
-        return Sought::Bad;
+        return Err(Refusal::Damaged);
     }
     if b < w {
-        return parted(k, l, b);
+        return Ok(parted(k, l, b));
     }
-    if w < k.width {
-        if prefix::bit(k, w) {
-            return Sought::On(r.right, w + 1, 0);
+    if w < k.prefix.width {
+        if prefix::bit(k.prefix, w) {
+            return Ok(Sought::On(r.right, w + 1, 0));
         }
-        return Sought::On(r.left, w + 1, r.right);
+        return Ok(Sought::On(r.left, w + 1, r.right));
     }
-    Sought::Done(r.left, r.right)
+    Ok(Sought::Done(r.left, r.right))
 }
 
 // The node at l is no prefix of k, with which it shares b bits: it comes after k, with all below it,
 // unless k goes on with a 1 there.
-fn parted(k: Prefix, l: u32, b: u32) -> Sought
-    requires { k.width ≤ 128 }
-    ensures { result ≡ parted_of k l b }
+#[tactic(auto, unfolding(crate::specs::Touring::parted_of))]
+fn parted(k: Key, l: u32, b: u32) -> Sought
+    ensures { result ≡ parted_of k.prefix l b }
 {
-    if b < k.width {
-        if prefix::bit(k, b) {
-            return Sought::Done(0, 0);
-        }
+    if b < k.prefix.width && prefix::bit(k.prefix, b) {
+        return Sought::Done(0, 0);
     }
     Sought::Done(l, 0)
 }

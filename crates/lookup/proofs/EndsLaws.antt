@@ -34,13 +34,16 @@ use Rattle.records.specs.Layout.{record_at}
 use Rattle.records.specs.Holds.{labels, Linked, Holds}
 use Rattle.records.specs.declared.Record.{Record}
 use Rattle.records.proofs.HoldsLaws.{is_table_holds}
-use Rattle.lookup.specs.Walking.{shared_on, down_on, seen_on, Survey, after_on, walk_on, start_on, walk_from, survey_on}
+use Rattle.lookup.specs.Walking.{shared_on, down_on, seen_on, Survey, path_of, after_on, walk_on, start_on, walk_from, refuse_on, survey_on}
 use Rattle.lookup.specs.declared.Walk.{Walk}
 use Rattle.lookup.specs.declared.Step.{Step}
-use Rattle.lookup.specs.declared.Step.TheVariants.{Down, Last, Bad}
+use Rattle.lookup.specs.declared.Step.TheVariants.{Down, Last}
 use Rattle.lookup.specs.declared.Met.{Met}
 use Rattle.lookup.specs.declared.Met.TheVariants.{Matching, Mismatching}
-use Rattle.lookup.specs.declared.Surveyed.TheVariants.{Path}
+use Rattle.lookup.specs.declared.Path.{Path}
+use Rattle.refusals.specs.declared.Refusal.{Refusal}
+use Rattle.refusals.specs.declared.Refusal.TheVariants.{Damaged}
+use Rattle.std.specs.Prelude.{Result, Ok, Err}
 use Rattle.lookup.proofs.StepsLaws.{width-bears, shared_on-bears, shared_on-prefix, shared_on_above, shared_on_apart, side_on-equal, side_on_below, step_on_end, step_on_node}
 use Rattle.lookup.proofs.PathsLaws.{Rooms, Noted}
 use Rattle.lookup.proofs.HoldsLaws.{rooms_holds, path_holds, survey_on_holds}
@@ -79,15 +82,20 @@ EndedIn f k s e = Ended f.above f.below k s e
 -- ---- walk_on: if it comes to a path, it ends at the focus
 
 -- a step that is refused comes to no path
-past-bad : (n : ℕ) (ts : List ℕ) (s : Walk) (go : ℕ → Walk → Survey) (j : ℕ) (d : Walk) (e : Met) (b : Bool) (x : Step)
-    → (after_on (cond b Bad x) n ts s go).out ≡ Path j d e → (after_on x n ts s go).out ≡ Path j d e
+past-bad : (n : ℕ) (ts : List ℕ) (s : Walk) (go : ℕ → Walk → Survey) (j : ℕ) (d : Walk) (e : Met) (b : Bool) (x : Result Step Refusal)
+    → (after_on (cond b (Err Damaged) x) n ts s go).out ≡ path_of j d e → (after_on x n ts s go).out ≡ path_of j d e
 unfolding after_on
 past-bad n ts s go j d e true x h = cc
 past-bad n ts s go j d e false x h = h
 
+path_same : (n j : ℕ) (s d : Walk) (x e : Met) → path_of n s x ≡ path_of j d e → (s ≡ d) × (x ≡ e)
+path_same n j s d x e h =
+    let q : ◌≡◌ {A = Path} (record { nodes = n; walk = s; met = x }) (record { nodes = j; walk = d; met = e }) = cc in
+    (ap (λ (p : Path). p.walk) q, ap (λ (p : Path). p.met) q)
+
 module _ (ws : List ℕ) (k : Prefix) (valid : Valid k) (j : ℕ) (d : Walk) (e : Met) where
   abbrev Comes : ℕ → ℕ → List ℕ → Walk → Type 0
-  Comes f n ts s = (walk_on f ws k n ts s).out ≡ Path j d e
+  Comes f n ts s = (walk_on f ws k n ts s).out ≡ path_of j d e
 
   comes_zero : (n : ℕ) (ts : List ℕ) (s : Walk) → Comes zero n ts s → ⊥
   unfolding walk_on
@@ -97,10 +105,11 @@ module _ (ws : List ℕ) (k : Prefix) (valid : Valid k) (j : ℕ) (d : Walk) (e 
 
   comes_end : (f n : ℕ) (ts : List ℕ) (s : Walk) → s.next ≡ 0 → Comes f n ts s → (d ≡ s) × (e ≡ Matching s.at)
   unfolding walk_on after_on
-  comes_end zero n ts s i h = (cc, cc)
+  comes_end zero n ts s i h = absurd (comes_zero n ts s h)
   comes_end (suc f) n ts s i h =
-      let q : Path n s (Matching s.at) ≡ Path j d e = rw (step_on_end ws k s i) at h in
-      (cc, cc)
+      let q : path_of n s (Matching s.at) ≡ path_of j d e = rw (step_on_end ws k s i) at h in
+      let p = path_same n j s d (Matching s.at) e q in
+      (sym p.0, sym p.1)
 
   -- from a link that is linked as t is, t standing below c
   abbrev Ends : Tree ℕ → Type 0
@@ -115,12 +124,12 @@ module _ (ws : List ℕ) (k : Prefix) (valid : Valid k) (j : ℕ) (d : Walk) (e 
     abbrev here : Record
     here = record_at ws a
 
-    abbrev Goes : Step → Type 0
-    Goes x = (after_on x n ts s (λ w t. walk_on f ws k (n + 1) (set ts n w) t)).out ≡ Path j d e
+    abbrev Goes : Result Step Refusal → Type 0
+    Goes x = (after_on x n ts s (λ w t. walk_on f ws k (n + 1) (set ts n w) t)).out ≡ path_of j d e
 
-    abbrev unrefused : Step
+    abbrev unrefused : Result Step Refusal
     unrefused =
-        cond (ltb (shared_on here k) (here.tag / 2)) (Last (here.tag / 2) (shared_on here k)) (Down (here.tag / 2) (down_on here k s))
+        cond (ltb (shared_on here k) (here.tag / 2)) (Ok (Last (here.tag / 2) (shared_on here k))) (Ok (Down (here.tag / 2) (down_on here k s)))
 
     goes-unrefused : Goes (seen_on here k s) → Goes unrefused
     unfolding seen_on
@@ -132,10 +141,10 @@ module _ (ws : List ℕ) (k : Prefix) (valid : Valid k) (j : ℕ) (d : Walk) (e 
         → StoodAt c d × (e ≡ Mismatching a (length (lcp z (string_of k))))
     unfolding after_on
     ended_off i h =
-        let q : Path (n + 1) s (Mismatching s.next (shared_on here k)) ≡ Path j d e =
+        let q : path_of (n + 1) s (Mismatching s.next (shared_on here k)) ≡ path_of j d e =
         rw (lt-ltb (shared_on here k) (here.tag / 2) i) at h in
-        let same : s ≡ d = cc in
-        (rw same at st, cc (linked.0, shared_on-bears here z v linked.1 k))
+        let p = path_same (n + 1) j s d (Mismatching s.next (shared_on here k)) e q in
+        (rw p.0 at st, sym p.1 ∙ rw (linked.0, shared_on-bears here z v linked.1 k))
 
     -- where the node is a prefix of the key, the walk goes on
     goes_on : shared_on here k ≡ here.tag / 2 → Goes unrefused → Comes f (n + 1) (set ts n (here.tag / 2)) (down_on here k s)
@@ -200,18 +209,18 @@ pub record EndsAt (ws : List ℕ) (m : Map) (h : Holds ws m) (k : Bits) (ts : Li
   pub number : ℕ
   pub last : Walk
   pub met : Met
-  pub out : x.out ≡ Path number last met
+  pub out : x.out ≡ path_of number last met
   pub number_is : number ≡ length (path (keys m) k)
   pub widths : x.widths ≡ sets ts 0 (map length (path (keys m) k))
-  pub noted : Noted (best none h.tree k) last.best last.zone
+  pub noted : Noted (best none h.tree k) last
   pub ended : Ended (focus top h.tree k).above (focus top h.tree k).below k last met
 
 module _ (ws : List ℕ) (m : Map) (k : Prefix) (room : ℕ) (ts : List ℕ) (h : Holds ws m) (v : Valid k) (i : 129 ≤ room) where
   survey_on-walk_from : survey_on ws k room ts ≡ walk_from ws k ts
-  unfolding survey_on
+  unfolding survey_on refuse_on
   survey_on-walk_from = rw (is_table_holds h, valid-is_valid k v, le-ltb room 129 i)
 
-  survey_on-ended : (n : ℕ) (d : Walk) (e : Met) → (survey_on ws k room ts).out ≡ Path n d e
+  survey_on-ended : (n : ℕ) (d : Walk) (e : Met) → (survey_on ws k room ts).out ≡ path_of n d e
       → EndedIn (focus top h.tree (string_of k)) (string_of k) d e
   unfolding walk_from start_on
   survey_on-ended n d e q =

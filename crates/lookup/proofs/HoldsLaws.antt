@@ -1,7 +1,7 @@
 -- The laws of what fetch and longest match say of a table: on words that hold a map, the map's answers and
 -- the path's widths. No contract cites this file.
 -- Assumes nothing.
-use Prim.Native.Nat.{ℕ, ◌+◌, ◌-◌, ◌≤◌, ◌<◌}
+use Prim.Native.Nat.{ℕ, ◌+◌, ◌≤◌, ◌<◌}
 use native.Mathlib.Nat.{zero-add}
 use native.Mathlib.Omega.{arith}
 use mathlib.Core.Path.{◌≡◌, refl, sym, ap, ◌∙◌}
@@ -11,7 +11,7 @@ use mathlib.Core.Option.{Option, none, some}
 use lib.Dec.{eqb}
 use lib.ListN.{length, take, drop, replicate, length-append, length-map}
 use lib.Seq.{take_at, sets, sets-eq}
-use borrow.Author.Tests.{le-ltb, eqb-true, eqb-false, eq-eqb, ne_eqb}
+use borrow.Author.Tests.{le-ltb, eq-eqb, ne_eqb}
 use Rattle.bits.specs.Bits.{Bits}
 use Rattle.bits.specs.Meet.{meet}
 use Rattle.bits.specs.declared.Meeting.{Meeting}
@@ -30,13 +30,13 @@ use Rattle.zones.proofs.WalkLaws.{path-entries}
 use Rattle.zones.proofs.FindLaws.{get-entries, longest_match-entries}
 use Rattle.records.specs.Holds.{Holds}
 use Rattle.records.proofs.HoldsLaws.{is_table_holds, labels-room}
-use Rattle.lookup.specs.Walking.{Survey, start_on, walk_from, survey_on, leave_on}
+use Rattle.lookup.specs.Walking.{Survey, start_on, walk_from, refuse_on, survey_on, leave_on, stored_in}
 use Rattle.lookup.specs.Fetching as fetching
-use Rattle.lookup.specs.Fetching.{found_of, fetched_of, fetch_on}
+use Rattle.lookup.specs.Fetching.{found_by, found_of, fetched_of, fetch_on, given}
 use Rattle.lookup.specs.Matching as matching
 use Rattle.lookup.specs.Matching.{match_of, matched_of, longest_on}
 use Rattle.lookup.specs.declared.Walk.{Walk}
-use Rattle.lookup.specs.declared.Fetched.TheVariants.{Found, Absent}
+use Rattle.std.specs.Prelude.{Some, None}
 use Rattle.lookup.proofs.PathsLaws.{Rooms, Noted, Walked, walk_on-linked}
 
 -- ---- Holds: the refusals do not apply, and the walk is the tree's
@@ -57,7 +57,7 @@ module _ (ws : List ℕ) (m : Map) (h : Holds ws m) where
 
     pub survey_on_holds : (room : ℕ) (ts : List ℕ) → 129 ≤ room
         → Walked ts 0 (walk h.tree (string_of k)) (best none h.tree (string_of k)) (survey_on ws k room ts)
-    unfolding survey_on
+    unfolding survey_on refuse_on
     survey_on_holds room ts i =
         rw (
           is_table_holds h,
@@ -115,43 +115,31 @@ module _ {A : Type 0} (k : Bits) where
   find-best tip o h = h
   find-best (node a s v l r) o h = find-best_at s v l r o (meet s k) (meet-says s k) h (find-best l) (find-best r)
 
--- ---- found_of and match_of: what a walk has noted, as the answer
+-- ---- stored_in and found_of: what a walk has noted, as the answer
 
-eqb-add_one : (x y : ℕ) → eqb (x + 1) (y + 1) ≡ eqb x y
-eqb-add_one x y = at (eqb x y) refl
+stored_in-exactly : (w : ℕ) (k : Bits) (o : Option Entry) → length k ≡ w → stored_in w (match_of o) ≡ given (exactly o k)
+stored_in-exactly w k none e = refl
+stored_in-exactly w k (some u) e = rw e (at (eqb (length u.key) w))
   where
-    at : (b : Bool) → eqb x y ≡ b → eqb (x + 1) (y + 1) ≡ b
-    at true e = eq-eqb (x + 1) (y + 1) (omega (arith, eqb-true x y e))
-    at false e = ne_eqb (x + 1) (y + 1) (λ i. eqb-false x y e (omega arith))
+    at : (b : Bool) → cond b (Some u.zone) None ≡ given (cond b (some u.zone) none)
+    at true = refl
+    at false = refl
 
-gives-cond : (b : Bool) (n z : ℕ) → cond b (Found n z) (Absent n) ≡ fetching.gives n (cond b (some z) none)
-gives-cond true n z = refl
-gives-cond false n z = refl
-
-noted_at : (w b z : ℕ) (k : Bits) (o : Option Entry) → length k ≡ w → Noted o b z → cond (eqb b (w + 1)) (some z) none ≡ exactly o k
-noted_at w b z k none e h = rw (h, ne_eqb 0 (w + 1) (omega arith))
-noted_at w b z k (some u) e h = rw (← e, h.0, h.1, eqb-add_one)
-
--- the number that a walk has noted for the key's own width is the one that is stored
+-- the number that a walk has noted for the key itself is the one that is stored
 pub get-noted : (ws : List ℕ) (m : Map) (h : Holds ws m) (k : Prefix) (s : Walk) → Valid k
-    → Noted (best none h.tree (string_of k)) s.best s.zone
-    → cond (eqb s.best (k.width + 1)) (some s.zone) none ≡ get (string_of k) m
+    → Noted (best none h.tree (string_of k)) s → stored_in k.width s.longest ≡ given (get (string_of k) m)
 get-noted ws m h k s v i =
-    noted_at k.width s.best s.zone (string_of k) (best none h.tree (string_of k)) (length-string_of k v.narrow) i
-    ∙ find-best (string_of k) h.tree none refl ∙ (rw h.map_is at (sym (get-entries [] h.tree h.good (string_of k))))
+    rw i (stored_in-exactly k.width (string_of k) (best none h.tree (string_of k)) (length-string_of k v.narrow))
+    ∙ ap given (find-best (string_of k) h.tree none refl ∙ (rw h.map_is at (sym (get-entries [] h.tree h.good (string_of k)))))
+
+found_by-given : (n : ℕ) (o : Option ℕ) → found_by n (given o) ≡ fetching.gives n o
+found_by-given n (some z) = refl
+found_by-given n none = refl
 
 pub found_of_holds : (ws : List ℕ) (k : Prefix) (m : Map) (h : Holds ws m) → Valid k → (n : ℕ) (s : Walk)
-    → Noted (best none h.tree (string_of k)) s.best s.zone → found_of k n s ≡ fetching.gives n (get (string_of k) m)
+    → Noted (best none h.tree (string_of k)) s → found_of k n s ≡ fetching.gives n (get (string_of k) m)
 unfolding found_of
-found_of_holds ws k m h v n s i =
-    gives-cond (eqb s.best (k.width + 1)) n s.zone ∙ ap (fetching.gives n) (get-noted ws m h k s v i)
-
-match_of-noted : (n : ℕ) (s : Walk) (o : Option Entry) → Noted o s.best s.zone → match_of n s ≡ matching.gives n o
-unfolding match_of
-match_of-noted n s none h = rw (eq-eqb s.best 0 h)
-match_of-noted n s (some e) h =
-    let w : length e.key + 1 - 1 ≡ length e.key = omega arith in
-    rw (h.0, h.1, ne_eqb (length e.key + 1) 0 (omega arith), w)
+found_of_holds ws k m h v n s i = ap (found_by n) (get-noted ws m h k s v i) ∙ found_by-given n (get (string_of k) m)
 
 -- ---- fetch_on and longest_on
 
@@ -178,7 +166,7 @@ module _ (ws : List ℕ) (k : Prefix) (bs ts : List ℕ) (m : Map) (h : Holds ws
   matched_of_holds =
       let f : longest_match (string_of k) m ≡ best none h.tree (string_of k) =
       rw h.map_is at (longest_match-entries [] h.tree h.good (string_of k)) in
-      rw (walked_holds.out, zero-add, f) (match_of-noted number walked_holds.ends (best none h.tree (string_of k)) walked_holds.noted)
+      rw (walked_holds.out, zero-add, f, walked_holds.noted)
 
 pub fetch_on_holds : (ws : List ℕ) (k : Prefix) (bs : List ℕ) (m : Map) → Holds ws m → Valid k → 129 ≤ length bs
     → fetch_on ws k bs

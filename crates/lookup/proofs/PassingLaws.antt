@@ -19,8 +19,10 @@ use Rattle.records.specs.Layout.{is_table, place, record_at, header_at, key_of}
 use Rattle.records.specs.declared.Record.{Record}
 use Rattle.records.proofs.LayoutLaws.{is_table_true, room-room_of}
 use Rattle.lookup.specs.Walking.{shared_on, agree_on, side_on, down_on, step_on, start_on, walk_from}
-use Rattle.lookup.specs.Descending.{Held, Passed, top_of, past_on, best_in, zone_in, walk_in, Sound, Descended, Reached}
+use Rattle.lookup.specs.Descending.{Held, Passed, top_of, past_on, longest_in, walk_in, Sound, Descended, Reached}
+use Rattle.lookup.specs.declared.Match.{Match}
 use Rattle.lookup.specs.declared.Step.TheVariants.{Down}
+use Rattle.std.specs.Prelude.{Option, Some, Ok}
 use Rattle.lookup.specs.declared.descent.Descent.{Descent}
 use Rattle.lookup.proofs.StepsLaws.{step_on_node, seen_on_down}
 use Rattle.lookup.proofs.WalkingLaws.{walk_on_down}
@@ -71,7 +73,7 @@ module _ (ws : List ℕ) (k : Prefix) (last : ℕ) (d : Descent) (tag link : ℕ
       let e : here.tag / 2 ≡ tag / 2 = rw p.tag_is in
       rw (e, lt-ltb (tag / 2) k.width p.wider, w) (sym p.goes)
 
-  passed_held : (z : ℕ) (f : ℕ → ℕ) → z ≡ f d.next → cond (odd tag) z (f d.held) ≡ f (cond (odd tag) d.next d.held)
+  passed_held : (z : Option Match) (f : ℕ → Option Match) → z ≡ f d.next → cond (odd tag) z (f d.held) ≡ f (cond (odd tag) d.next d.held)
   passed_held z f e = at (odd tag)
     where
       at : (b : Bool) → cond b z (f d.held) ≡ f (cond b d.next d.held)
@@ -79,16 +81,15 @@ module _ (ws : List ℕ) (k : Prefix) (last : ℕ) (d : Descent) (tag link : ℕ
       at false = refl
 
   down_past : down_on here k (walk_in ws last d) ≡ walk_in ws (pushed_on last d) (past_on d tag link)
-  unfolding down_on walk_in past_on best_in zone_in
+  unfolding down_on walk_in past_on longest_in
   down_past =
       let f = is_table_true (length ws) t in
       let place-most : d.next < 1048576 = omega (arith, p.room) in
       let some : eqb d.next 0 ≡ false = ne_eqb d.next 0 (omega (arith, p.some_record)) in
       let low : here.tag / 2 + 1 ≡ tag / 2 + 1 = rw p.tag_is in
-      let best : cond (odd tag) (here.tag / 2 + 1) (best_in ws d.held) ≡ best_in ws (cond (odd tag) d.next d.held) =
-      passed_held (here.tag / 2 + 1) (best_in ws) (rw some) in
-      let zone : cond (odd tag) here.zone (zone_in ws d.held) ≡ zone_in ws (cond (odd tag) d.next d.held) =
-      passed_held here.zone (zone_in ws) (rw some) in
+      let stored : Option Match = Some (record { width = here.tag / 2; zone = here.zone }) in
+      let longest : cond (odd tag) stored (longest_in ws d.held) ≡ longest_in ws (cond (odd tag) d.next d.held) =
+      passed_held stored (longest_in ws) (rw some) in
       let same : odd here.tag ≡ odd tag = ap odd (sym p.tag_is) in
       rw same (λ i.
       record {
@@ -97,11 +98,10 @@ module _ (ws : List ℕ) (k : Prefix) (last : ℕ) (d : Descent) (tag link : ℕ
         over = ap (λ (x : ℕ). x / 8) (pushed-third last d.next place-most) i;
         next = passed_next i;
         low = low i;
-        best = best i;
-        zone = zone i;
+        longest = longest i;
       })
 
-  pub passed_step : Down (tag / 2) (walk_in ws (pushed_on last d) (past_on d tag link)) ≡ step_on ws k (walk_in ws last d)
+  pub passed_step : Ok (Down (tag / 2) (walk_in ws (pushed_on last d) (past_on d tag link))) ≡ step_on ws k (walk_in ws last d)
   unfolding walk_in
   passed_step =
       let room = room-room_of (length ws) (d.next / 8) (omega (arith, p.some_record, s.next_whole)) (omega (arith, p.room, s.next_whole)) in
@@ -113,9 +113,9 @@ module _ (ws : List ℕ) (k : Prefix) (last : ℕ) (d : Descent) (tag link : ℕ
 
 -- ---- the loop of `descend`
 
-pub descended_start : (ws : List ℕ) (k : Prefix) (ts : List ℕ) (root : ℕ) (d : Descent) → root ≡ (header_at ws).root → root < 2 ^ 32 → d ≡ top_of root
+descended_start : (ws : List ℕ) (k : Prefix) (ts : List ℕ) (root : ℕ) (d : Descent) → root ≡ (header_at ws).root → root < 2 ^ 32 → d ≡ top_of root
     → Descended ws k ts 0 d ts
-unfolding walk_in best_in zone_in walk_from start_on top_of
+unfolding walk_in longest_in walk_from start_on top_of
 descended_start ws k ts root d e h g =
     let whole : 8 * root / 8 ≡ root = omega arith in
     subst (λ (x : Descent). Descended ws k ts 0 x ts) (sym g)
@@ -148,14 +148,24 @@ module _ (ws : List ℕ) (k : Prefix) (ts after : List ℕ) (last : ℕ) (d : De
             (sym (passed_step ws k last d tag link t h.sound p));
       }
 
-  pub descended_past : (r : Descent) → (r ≡ past_on d tag link) × (r.next / 8 < 2 ^ 32)
+  descended_past : (r : Descent) → (r ≡ past_on d tag link) × (r.next / 8 < 2 ^ 32)
       → Descended ws k ts (last * 1048576 % 2 ^ 64 + d.next) r (set after d.n (tag / 2))
   descended_past r e =
       subst (λ (x : Descent). Descended ws k ts (pushed_on last d) x (set after d.n (tag / 2))) (sym e.0)
       (descended_on (subst (λ (x : Descent). x.next / 8 < 2 ^ 32) e.0 e.1))
 
-pub reached_past : (ws : List ℕ) (k : Prefix) (ts after : List ℕ) (d : Descent) (tag link : ℕ) → is_table (length ws) ≡ true
-    → Passed ws k d.next d.low tag link → Reached ws k ts d after → (r : Descent) → (r ≡ past_on d tag link) × (r.next / 8 < 2 ^ 32)
-    → Reached ws k ts r (set after d.n (tag / 2))
-reached_past ws k ts after d tag link t p h r e =
-    record { last = pushed_on h.last d; descended = descended_past ws k ts after h.last d tag link t p h.descended r e }
+pub reached_start : (noted : Bool) (ws : List ℕ) (k : Prefix) (ts : List ℕ) (note root : ℕ) (d : Descent) → (noted ≡ true → note ≡ 0)
+    → root ≡ (header_at ws).root → root < 2 ^ 32 → d ≡ top_of root → Reached noted ws k ts note d ts
+reached_start noted ws k ts note root d n e h g =
+    record { nodes = 0; are = λ t. sym (n t); descended = descended_start ws k ts root d e h g }
+
+pub reached_past : (noted : Bool) (ws : List ℕ) (k : Prefix) (ts after : List ℕ) (note more : ℕ) (d : Descent) (tag link : ℕ)
+    → is_table (length ws) ≡ true → Passed ws k d.next d.low tag link → Reached noted ws k ts note d after
+    → (noted ≡ true → more ≡ note * 1048576 % 2 ^ 64 + d.next) → (r : Descent) → (r ≡ past_on d tag link) × (r.next / 8 < 2 ^ 32)
+    → Reached noted ws k ts more r (set after d.n (tag / 2))
+reached_past noted ws k ts after note more d tag link t p h f r e =
+    record {
+      nodes = pushed_on h.nodes d;
+      are = λ i. ap (λ (x : ℕ). pushed_on x d) (h.are i) ∙ sym (f i);
+      descended = descended_past ws k ts after h.nodes d tag link t p h.descended r e;
+    }

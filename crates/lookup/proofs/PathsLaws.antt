@@ -10,6 +10,8 @@ use mathlib.Core.Bool.{Bool, true, false, cond}
 use mathlib.Core.List.Memᴰ
 use mathlib.Core.List.{List, [], ◌∷◌, ◌++◌, map, Memᴰ}
 use mathlib.Core.Option.{Option, none, some}
+use Rattle.std.specs.Prelude as prelude
+use Rattle.std.specs.Prelude.{Some}
 use lib.Dec.{T}
 use lib.ListN.{length, set, length-append}
 use lib.Seq.{sets}
@@ -29,39 +31,39 @@ use Rattle.zones.specs.Searching.{onward, walk, better, best}
 use Rattle.records.specs.Layout.{room_of, record_at, zone_of}
 use Rattle.records.specs.Holds.{labels, Bears, Linked}
 use Rattle.records.specs.declared.Record.{Record}
-use Rattle.lookup.specs.Walking.{shared_on, down_on, seen_on, Survey, after_on, walk_on}
+use Rattle.lookup.specs.Walking.{shared_on, down_on, seen_on, Survey, path_of, after_on, walk_on}
 use Rattle.lookup.specs.declared.Walk.{Walk}
 use Rattle.lookup.specs.declared.Met.{Met}
 use Rattle.lookup.specs.declared.Met.TheVariants.{Matching, Mismatching}
-use Rattle.lookup.specs.declared.Surveyed.TheVariants.{Path}
+use Rattle.lookup.specs.declared.Match.{Match}
+use Rattle.lookup.specs.Matching.{match_of}
 use Rattle.lookup.proofs.StepsLaws.{width-bears, narrow-bears, shared_on-bears, shared_on-prefix, shared_on_above, shared_on_apart, side_on-equal, side_on_below, step_on_end, step_on_node, seen_on_down, seen_on-last}
 
 -- ---- what a walk notes, and what it leaves
 
--- the mark b and the number z stand for the entry o: its width plus 1 and its zone number, or 0 for none
-abbrev pub Noted : Option Entry → ℕ → ℕ → Type 0
-Noted none b z = b ≡ 0
-Noted (some e) b z = (b ≡ length e.key + 1) × (z ≡ e.zone)
+-- the walk s has noted the entry o, or none
+abbrev pub Noted : Option Entry → Walk → Type 0
+Noted o s = s.longest ≡ match_of o
 
-noted_at : (t : Bool) (z : Bits) (o : Option Entry) (w x b y : ℕ) → w ≡ length z → Noted o b y
-    → Noted (better z (cond t (some x) none) o) (cond t (w + 1) b) (cond t x y)
-noted_at true z o w x b y e h = (ap (λ (n : ℕ). n + 1) e, refl)
-noted_at false z o w x b y e h = h
+noted_at : (t : Bool) (z : Bits) (o : Option Entry) (w x : ℕ) (b : prelude.Option Match) → w ≡ length z → b ≡ match_of o
+    → cond t (Some (record { width = w; zone = x })) b ≡ match_of (better z (cond t (some x) none) o)
+noted_at true z o w x b e h = rw e
+noted_at false z o w x b e h = h
 
 noted_down : (r : Record) (k : Prefix) (z : Bits) (v : Option ℕ) (o : Option Entry) (s : Walk) → Bears r z v
-    → Noted o s.best s.zone → Noted (better z v o) (down_on r k s).best (down_on r k s).zone
+    → Noted o s → Noted (better z v o) (down_on r k s)
 unfolding down_on zone_of
 noted_down r k z v o s b h =
-    subst (λ (u : Option ℕ). Noted (better z u o) (down_on r k s).best (down_on r k s).zone) b.zone
-    (noted_at (odd r.tag) z o (r.tag / 2) r.zone s.best s.zone (width-bears r z v b) h)
+    subst (λ (u : Option ℕ). Noted (better z u o) (down_on r k s)) b.zone
+    (noted_at (odd r.tag) z o (r.tag / 2) r.zone s.longest (width-bears r z v b) h)
 
 -- x is what a walk leaves that met the strings ps from place n on, over ts, and noted o at its end
 pub record Walked (ts : List ℕ) (n : ℕ) (ps : List Bits) (o : Option Entry) (x : Survey) : Type 0 where
   pub ends : Walk
   pub met : Met
-  pub out : x.out ≡ Path (n + length ps) ends met
+  pub out : x.out ≡ path_of (n + length ps) ends met
   pub widths : x.widths ≡ sets ts n (map length ps)
-  pub noted : Noted o ends.best ends.zone
+  pub noted : Noted o ends
 
 walked_cons : (ts : List ℕ) (n w : ℕ) (z : Bits) (ps : List Bits) (o : Option Entry) (x : Survey) → w ≡ length z
     → Walked (set ts n w) (n + 1) ps o x → Walked ts n (z ∷ ps) o x
@@ -69,7 +71,7 @@ walked_cons ts n w z ps o x e h =
     record {
       ends = h.ends;
       met = h.met;
-      out = h.out ∙ ap (λ (i : ℕ). Path i h.ends h.met) (omega arith);
+      out = h.out ∙ ap (λ (i : ℕ). path_of i h.ends h.met) (omega arith);
       widths = h.widths ∙ rw (e, add-one);
       noted = h.noted;
     }
@@ -80,7 +82,7 @@ walked_cons ts n w z ps o x e h =
 pub record Stands (k : Prefix) (p : Bits) (o : Option Entry) (f : ℕ) (s : Walk) : Type 0 where
   pub prefix : T (is_prefix p (string_of k))
   pub low : s.low ≡ length p
-  pub noted : Noted o s.best s.zone
+  pub noted : Noted o s
   pub fuel : 130 ≤ s.low + f
 
 -- the words have a record for each link of the tree
@@ -88,12 +90,12 @@ abbrev pub Rooms : List ℕ → Tree ℕ → Type 0
 Rooms ws t = (a : ℕ) → Memᴰ a (labels t) → room_of (length ws) a ≡ true
 
 module _ (ws : List ℕ) (k : Prefix) where
-  walked_end : (f n : ℕ) (ts : List ℕ) (s : Walk) (o : Option Entry) → 1 ≤ f → s.next ≡ 0 → Noted o s.best s.zone
+  walked_end : (f n : ℕ) (ts : List ℕ) (s : Walk) (o : Option Entry) → 1 ≤ f → s.next ≡ 0 → Noted o s
       → Walked ts n [] o (walk_on f ws k n ts s)
   unfolding walk_on after_on
   walked_end zero n ts s o i e h = absurd (omega arith)
   walked_end (suc f) n ts s o i e h =
-      let out = ap (λ (j : ℕ). Path j s (Matching s.at)) (sym (add-zero n)) in
+      let out = ap (λ (j : ℕ). path_of j s (Matching s.at)) (sym (add-zero n)) in
       rw (step_on_end ws k s e) (record { ends = s; met = Matching s.at; out = out; widths = refl; noted = h })
 
   -- what a walk comes to from a link that is linked as t is
@@ -139,7 +141,7 @@ module _ (ws : List ℕ) (k : Prefix) where
           rw (seen_on_down here k s (narrow-bears here z v e.1) low-shared_on (omega (arith, shared_on-prefix here z v e.1 k i)))
           (walked_cons ts n (here.tag / 2) z ps u _ (width-bears here z v e.1) w)
 
-      noted_next : Noted (better z v o) (down_on here k s).best (down_on here k s).zone
+      noted_next : Noted (better z v o) (down_on here k s)
       noted_next = noted_down here k z v o s e.1 st.noted
 
       goes-equal : Says Equal z (string_of k) → Goes (z ∷ []) (better z v o)

@@ -22,10 +22,10 @@ use Rattle.prefix.proofs.KeysLaws.{is_valid_true}
 use Rattle.zones.specs.Maps.{Map}
 use Rattle.zones.specs.Tree.{Tree, tip, node}
 use Rattle.zones.specs.Searching.{onward}
-use Rattle.records.specs.Layout.{room_of, record_at}
+use Rattle.records.specs.Layout.{is_table, room_of, record_at}
 use Rattle.records.specs.Holds.{Linked, Holds}
 use Rattle.records.specs.declared.Record.{Record}
-use Rattle.lookup.specs.Walking.{shared_on, down_on, seen_on, step_on, Survey, after_on, walk_on, start_on, walk_from, survey_on}
+use Rattle.lookup.specs.Walking.{shared_on, down_on, seen_on, step_on, Survey, after_on, walk_on, start_on, walk_from, refuse_on, past_refusal, survey_on}
 use Rattle.lookup.specs.Paths.{path_links, Agree}
 use Rattle.lookup.specs.Fetching as fetching
 use Rattle.lookup.specs.Fetching.{fetch_on}
@@ -33,18 +33,20 @@ use Rattle.lookup.specs.Matching as matching
 use Rattle.lookup.specs.Matching.{longest_on}
 use Rattle.lookup.specs.declared.Walk.{Walk}
 use Rattle.lookup.specs.declared.Step.{Step}
-use Rattle.lookup.specs.declared.Step.TheVariants.{Down, Last, End, Bad}
-use Rattle.lookup.specs.declared.Surveyed.TheVariants.{BadPrefix, ShortOut}
+use Rattle.lookup.specs.declared.Step.TheVariants.{Down, Last, End}
+use Rattle.refusals.specs.declared.Refusal.{Refusal}
+use Rattle.refusals.specs.declared.Refusal.TheVariants.{BadLength, BadPrefix, ShortOut, Damaged}
+use Rattle.std.specs.Prelude.{Result, Ok, Err}
 use Rattle.lookup.proofs.PathLinksLaws.{walk_links, path_links-walk}
 use Rattle.lookup.proofs.StepsLaws.{shared_on_above, shared_on_apart, side_on-equal, side_on_below, step_on_end}
 
 -- ---- after_on: what comes after a step is alike if it is where the step goes down
 
 module _ (n : ℕ) (ts : List ℕ) (s : Walk) (go to : ℕ → Walk → Survey) where
-  abbrev Alike : Step → Type 0
+  abbrev Alike : Result Step Refusal → Type 0
   Alike x = after_on x n ts s go ≡ after_on x n ts s to
 
-  alike-cond : (b : Bool) (x y : Step) → Alike x → Alike y → Alike (cond b x y)
+  alike-cond : (b : Bool) (x y : Result Step Refusal) → Alike x → Alike y → Alike (cond b x y)
   alike-cond true x y h i = h
   alike-cond false x y h i = i
 
@@ -52,11 +54,11 @@ module _ (n : ℕ) (ts : List ℕ) (s : Walk) (go to : ℕ → Walk → Survey) 
       → (r.tag / 2 ≤ shared_on r k → go (r.tag / 2) (down_on r k s) ≡ to (r.tag / 2) (down_on r k s)) → Alike (seen_on r k s)
   unfolding after_on seen_on
   alike_seen r k h =
-      alike-cond (ltb 128 (r.tag / 2)) Bad _ refl
-      (alike-cond (ltb (shared_on r k) s.low) Bad _ refl (at (ltb (shared_on r k) (r.tag / 2)) refl))
+      alike-cond (ltb 128 (r.tag / 2)) (Err Damaged) _ refl
+      (alike-cond (ltb (shared_on r k) s.low) (Err Damaged) _ refl (at (ltb (shared_on r k) (r.tag / 2)) refl))
     where
       at : (b : Bool) → ltb (shared_on r k) (r.tag / 2) ≡ b
-          → Alike (cond b (Last (r.tag / 2) (shared_on r k)) (Down (r.tag / 2) (down_on r k s)))
+          → Alike (cond b (Ok (Last (r.tag / 2) (shared_on r k))) (Ok (Down (r.tag / 2) (down_on r k s))))
       at true e = refl
       at false e = h (ltb-false (shared_on r k) (r.tag / 2) e)
 
@@ -64,7 +66,7 @@ module _ (n : ℕ) (ts : List ℕ) (s : Walk) (go to : ℕ → Walk → Survey) 
   unfolding after_on step_on
   alike_step ws k a e h =
       let i : Alike (seen_on (record_at ws s.next) k s) = subst (λ (b : ℕ). Alike (seen_on (record_at ws b) k s)) (sym e) h in
-      alike-cond (eqb s.next 0) End _ refl (alike-cond (room_of (length ws) s.next) (seen_on (record_at ws s.next) k s) Bad i refl)
+      alike-cond (eqb s.next 0) (Ok End) _ refl (alike-cond (room_of (length ws) s.next) (seen_on (record_at ws s.next) k s) (Err Damaged) i refl)
 
 -- ---- walk_on
 
@@ -120,16 +122,12 @@ module _ (us ws : List ℕ) (k : Prefix) (v : Valid k) (length-same : length us 
       let go : ℕ → Walk → Survey = λ w d. walk_on f us k (n + 1) (set ts n w) d in
       let to : ℕ → Walk → Survey = λ w d. walk_on f ws k (n + 1) (set ts n w) d in
       let q = record_at ws a in
-      ap (λ (x : Step). after_on x n ts s go) (step_on_same s (rw e.0 (same a (Memᴰ.head refl))))
+      ap (λ (x : Result Step Refusal). after_on x n ts s go) (step_on_same s (rw e.0 (same a (Memᴰ.head refl))))
       ∙ alike_step n ts s go to ws k a e.0 (alike_seen n ts s go to q k
       (rests_at a z u l r s e (walk_on_rests l) (walk_on_rests r) f (n + 1) (set ts n (q.tag / 2)) (meet z (string_of k))
       (meet-says z (string_of k)) same))
 
 -- ---- survey_on, fetch_on, longest_on
-
-cond_same : (b : Bool) (x y z : Survey) → (b ≡ true → x ≡ y) → cond b x z ≡ cond b y z
-cond_same true x y z h = h refl
-cond_same false x y z h = refl
 
 module _ (ws us : List ℕ) (k : Prefix) (m : Map) (h : Holds ws m) (agree : Agree us ws (path_links h.tree (string_of k))) where
   walk_from_rests : Valid k → (ts : List ℕ) → walk_from us k ts ≡ walk_from ws k ts
@@ -140,14 +138,17 @@ module _ (ws us : List ℕ) (k : Prefix) (m : Map) (h : Holds ws m) (agree : Agr
       (rw (path_links-walk h.tree (string_of k) h.good) at agree.same_records))
 
   pub survey_on_rests : (room : ℕ) (ts : List ℕ) → survey_on us k room ts ≡ survey_on ws k room ts
-  unfolding survey_on
+  unfolding survey_on refuse_on
   survey_on_rests room ts =
-      let short : Survey = record { widths = ts; out = ShortOut } in
-      rw (
-        agree.same_length,
-        cond_same (is_valid k) (cond (ltb room 129) short (walk_from us k ts)) (cond (ltb room 129) short (walk_from ws k ts))
-            (record { widths = ts; out = BadPrefix }) (λ e. rw (walk_from_rests (is_valid_true k e) ts)),
-      )
+      rw agree.same_length (at (is_table (length ws)) (is_valid k) (ltb room 129) refl)
+    where
+      at : (a b c : Bool) → is_valid k ≡ b
+          → past_refusal (cond a (cond b (cond c (Err (ShortOut 129)) (Ok tt)) (Err BadPrefix)) (Err BadLength)) ts (walk_from us k ts)
+          ≡ past_refusal (cond a (cond b (cond c (Err (ShortOut 129)) (Ok tt)) (Err BadPrefix)) (Err BadLength)) ts (walk_from ws k ts)
+      at true true false e = walk_from_rests (is_valid_true k e) ts
+      at true true true e = refl
+      at true false c e = refl
+      at false b c e = refl
 
 pub fetch_on_rests : (ws us : List ℕ) (k : Prefix) (bs : List ℕ) (m : Map) → (h : Holds ws m)
     → Agree us ws (path_links h.tree (string_of k)) → fetch_on us k bs ≡ fetch_on ws k bs

@@ -27,6 +27,7 @@ use Rattle.records.proofs.LayoutLaws.{room_of_zero}
 use Rattle.lookup.specs.Walking.{shared_on, agree_on, side_on, down_on, seen_on, step_on}
 use Rattle.lookup.specs.declared.Walk.{Walk}
 use Rattle.lookup.specs.declared.Step.TheVariants.{Down, Last, End}
+use Rattle.std.specs.Prelude.{Ok}
 
 -- ---- shared_on and side_on: what they are at a node's record, by how the key meets the node's string
 
@@ -105,7 +106,7 @@ module _ (r : Record) (z : Bits) (v : Option ℕ) (b : Bears r z v) where
 -- ---- step_on, one law for each way out
 
 module _ (ws : List ℕ) (k : Prefix) (s : Walk) where
-  pub step_on_end : s.next ≡ 0 → step_on ws k s ≡ End
+  pub step_on_end : s.next ≡ 0 → step_on ws k s ≡ Ok End
   unfolding step_on
   step_on_end e = rw (eq-eqb s.next 0 e)
 
@@ -114,10 +115,10 @@ module _ (ws : List ℕ) (k : Prefix) (s : Walk) where
   step_on_node a e h = rw (e, h, ne_eqb a 0 (room_of_zero (length ws) a h))
 
 module _ (r : Record) (k : Prefix) (s : Walk) (w : r.tag / 2 ≤ 128) (l : s.low ≤ shared_on r k) where
-  pub seen_on_down : r.tag / 2 ≤ shared_on r k → seen_on r k s ≡ Down (r.tag / 2) (down_on r k s)
+  pub seen_on_down : r.tag / 2 ≤ shared_on r k → seen_on r k s ≡ Ok (Down (r.tag / 2) (down_on r k s))
   unfolding seen_on
   seen_on_down h = rw (le-ltb 128 (r.tag / 2) w, le-ltb (shared_on r k) s.low l, le-ltb (shared_on r k) (r.tag / 2) h)
 
-  pub seen_on-last : shared_on r k < r.tag / 2 → seen_on r k s ≡ Last (r.tag / 2) (shared_on r k)
+  pub seen_on-last : shared_on r k < r.tag / 2 → seen_on r k s ≡ Ok (Last (r.tag / 2) (shared_on r k))
   unfolding seen_on
   seen_on-last h = rw (le-ltb 128 (r.tag / 2) w, le-ltb (shared_on r k) s.low l, lt-ltb (shared_on r k) (r.tag / 2) h)

@@ -7,21 +7,21 @@
 --   Turned            the contract of `turn_at`
 --   ends_on ws        the header's last word is no tag of a node that is passed
 --   top_of, past_on   the descent at the top, and past a node
---   best_in, zone_in  the longest stored prefix so far, by the word at which its record starts
+--   longest_in ws at  the longest stored prefix so far, by the word at which its record starts
 --   walk_in ws l d    the walk that a descent stands for, where the last nodes are l
 --   Sound ws d        what a descent names are records' first words, or none
---   Descended         the contract of `trace`: the walk from the top comes to what the walk from there does
+--   Descended         the walk from the top comes to what the walk from there does
 --   Reached           the contract of `descend`
 -- Assumes nothing.
-use Rattle.std.specs.Prelude.{ℕ, ◌+◌, ◌-◌, ◌/◌, ◌%◌, ◌^◌, ◌≤◌, ◌<◌, ◌≡◌, Bool, cond, List, eqb, leb, ltb, length}
+use Rattle.std.specs.Prelude.{ℕ, ◌+◌, ◌-◌, ◌/◌, ◌%◌, ◌^◌, ◌≤◌, ◌<◌, ◌≡◌, Bool, true, cond, List, Option, Some, None, eqb, leb, ltb, length}
 use Rattle.bits.specs.Numbers.{odd}
 use Rattle.prefix.specs.declared.Prefix.{Prefix}
 use Rattle.records.specs.Layout.{place, record_at}
 use Rattle.lookup.specs.Walking.{agree_on, walk_on, walk_from}
+use Rattle.lookup.specs.declared.Match.{Match}
 use Rattle.lookup.specs.declared.Walk.{Walk}
 use Rattle.lookup.specs.declared.descent.Descent.{Descent}
-use Rattle.lookup.specs.declared.descent.Turn.{Turn}
-use Rattle.lookup.specs.declared.descent.Turn.TheVariants.{On, Off}
+use Rattle.lookup.specs.declared.descent.Pass.{Pass}
 
 abbrev pub Whole : ℕ → Type 0
 Whole at = at ≡ place (at / 8)
@@ -45,9 +45,9 @@ pub record Passed (ws : List ℕ) (k : Prefix) (at low tag link : ℕ) : Type 0 
 unfoldable pub ends_on : List ℕ → Bool
 ends_on ws = leb 128 (record_at ws 0).tag
 
-abbrev pub Turned : List ℕ → Prefix → ℕ → ℕ → Turn → Type 0
-Turned ws k at low (On tag link) = Passed ws k at low tag link
-Turned ws k at low Off = Unit {0}
+abbrev pub Turned : List ℕ → Prefix → ℕ → ℕ → Option Pass → Type 0
+Turned ws k at low (Some p) = Passed ws k at low p.tag p.link
+Turned ws k at low None = Unit {0}
 
 unfoldable pub top_of : ℕ → Descent
 top_of root = record { next = place root; held = 0; low = 0; n = 0 }
@@ -55,11 +55,8 @@ top_of root = record { next = place root; held = 0; low = 0; n = 0 }
 unfoldable pub past_on : Descent → ℕ → ℕ → Descent
 past_on d tag link = record { next = place link; held = cond (odd tag) d.next d.held; low = tag / 2 + 1; n = d.n + 1 }
 
-unfoldable pub best_in : List ℕ → ℕ → ℕ
-best_in ws at = cond (eqb at 0) 0 ((record_at ws (at / 8)).tag / 2 + 1)
-
-unfoldable pub zone_in : List ℕ → ℕ → ℕ
-zone_in ws at = cond (eqb at 0) 0 (record_at ws (at / 8)).zone
+unfoldable pub longest_in : List ℕ → ℕ → Option Match
+longest_in ws at = cond (eqb at 0) None (Some (record { width = (record_at ws (at / 8)).tag / 2; zone = (record_at ws (at / 8)).zone }))
 
 unfoldable pub walk_in : List ℕ → ℕ → Descent → Walk
 walk_in ws last d =
@@ -69,8 +66,7 @@ walk_in ws last d =
       over = last / 1099511627776 % 1048576 / 8;
       next = d.next / 8;
       low = d.low;
-      best = best_in ws d.held;
-      zone = zone_in ws d.held;
+      longest = longest_in ws d.held;
     }
 
 pub record Sound (ws : List ℕ) (d : Descent) : Type 0 where
@@ -84,7 +80,8 @@ pub record Descended (ws : List ℕ) (k : Prefix) (ts : List ℕ) (last : ℕ) (
   pub early : d.low ≤ 64
   pub same : walk_on (130 - d.n) ws k d.n after (walk_in ws last d) ≡ walk_from ws k ts
 
--- a read carries no last nodes: some are those of the walk
-pub record Reached (ws : List ℕ) (k : Prefix) (ts : List ℕ) (d : Descent) (after : List ℕ) : Type 0 where
-  pub last : ℕ
-  pub descended : Descended ws k ts last d after
+-- (a descent that notes no last nodes has some; one that notes them has these)
+pub record Reached (noted : Bool) (ws : List ℕ) (k : Prefix) (ts : List ℕ) (last : ℕ) (d : Descent) (after : List ℕ) : Type 0 where
+  pub nodes : ℕ
+  pub are : noted ≡ true → nodes ≡ last
+  pub descended : Descended ws k ts nodes d after

@@ -1,68 +1,63 @@
 -- Fetch: what it answers on any words, and its promise.
 -- Paper 01, "The lent table" ("Fetch gives the stored number") and "Numbered refusals".
---   found_of k n s        the answer where the walk has ended after n nodes
---   fetched_of k x        the answer that comes of a survey
---   fetch_on ws k bs      the answer and the trail's bytes, on any words
---   number_of, values_of  the paper's number of an answer, 0 where accepted, and its values
---   Fetch                 the contract of `fetch`
+--   found_of k n s    the answer where the walk has ended after n nodes
+--   fetched_of k x    the answer that comes of a survey
+--   fetch_on ws k bs  the answer and the trail's bytes, on any words
+--   given o           a map's number as an answer has it
+--   values_of         the values of an answer
+--   Fetch             the contract of `fetch`
 -- Assumes nothing.
-use Rattle.std.specs.Prelude.{ℕ, ◌+◌, ◌≤◌, ◌≡◌, true, cond, List, [], ◌∷◌, ◌++◌, eqb, length, drop, replicate}
-use Rattle.std.proofs.Math.Option.{Option, none, some}
-use Rattle.refusals.specs.Refusals.{GivenExactly}
+use Rattle.std.specs.Prelude.{ℕ, ◌≤◌, ◌≡◌, true, List, [], ◌∷◌, ◌++◌, Option, Some, None, Result, Ok, Err, length, drop, replicate}
+use Rattle.std.proofs.Math.Option as math
+use Rattle.refusals.specs.Refusals.{number_of, nodes_in, GivenExactly}
+use Rattle.refusals.specs.declared.Refusal.{Refusal}
+use Rattle.refusals.specs.declared.Refusal.TheVariants.{Absent}
 use Rattle.prefix.specs.Keys.{string_of, Valid}
 use Rattle.prefix.specs.declared.Prefix.{Prefix}
 use Rattle.zones.specs.Maps.{Map, keys, get}
 use Rattle.zones.specs.Nodes.{path, trail}
 use Rattle.records.specs.Holds.{Holds}
-use Rattle.lookup.specs.Walking.{Survey, survey_on, first_refusal, leaves_all, Outcome, leave_on}
+use Rattle.lookup.specs.Walking.{Survey, survey_on, first_refusal, leaves_all, Outcome, leave_on, stored_in}
+use Rattle.lookup.specs.declared.Keyed.{Keyed}
 use Rattle.lookup.specs.declared.Walk.{Walk}
-use Rattle.lookup.specs.declared.Surveyed.{Surveyed}
-use Rattle.lookup.specs.declared.Surveyed.TheVariants as surveyed
-use Rattle.lookup.specs.declared.Fetched.{Fetched}
-use Rattle.lookup.specs.declared.Fetched.TheVariants.{Found, BadLength, BadPrefix, ShortOut, Damaged, Absent}
+use Rattle.lookup.specs.declared.Path.{Path}
 
-unfoldable pub found_of : Prefix → ℕ → Walk → Fetched
-found_of k n s = cond (eqb s.best (k.width + 1)) (Found n s.zone) (Absent n)
+-- No. 7, Absent: "remove or fetch of a prefix not stored"
+abbrev pub found_by : ℕ → Option ℕ → Result (Keyed ℕ) Refusal
+found_by n (Some z) = Ok (record { nodes = n; value = z })
+found_by n None = Err (Absent n)
 
-abbrev pub fetched_of : Prefix → Surveyed → Fetched
-fetched_of k (surveyed.Path n s e) = found_of k n s
-fetched_of k surveyed.BadLength = BadLength
-fetched_of k surveyed.BadPrefix = BadPrefix
-fetched_of k surveyed.ShortOut = ShortOut
-fetched_of k surveyed.Damaged = Damaged
+unfoldable pub found_of : Prefix → ℕ → Walk → Result (Keyed ℕ) Refusal
+found_of k n s = found_by n (stored_in k.width s.longest)
 
-abbrev pub outcome_of : Prefix → List ℕ → Survey → Outcome Fetched
+abbrev pub fetched_of : Prefix → Result Path Refusal → Result (Keyed ℕ) Refusal
+fetched_of k (Ok p) = found_of k p.nodes p.walk
+fetched_of k (Err e) = Err e
+
+abbrev pub outcome_of : Prefix → List ℕ → Survey → Outcome (Result (Keyed ℕ) Refusal)
 outcome_of k bs v = record { answer = fetched_of k v.out; bytes = leave_on bs v.widths v.out }
 
-unfoldable pub fetch_on : List ℕ → Prefix → List ℕ → Outcome Fetched
+unfoldable pub fetch_on : List ℕ → Prefix → List ℕ → Outcome (Result (Keyed ℕ) Refusal)
 fetch_on ws k bs = outcome_of k bs (survey_on ws k (length bs) (replicate 129 0))
 
--- Nos. 1, 2, 5, 6 and 7
-abbrev pub number_of : Fetched → ℕ
-number_of (Found n z) = 0
-number_of BadLength = 1
-number_of BadPrefix = 2
-number_of ShortOut = 5
-number_of Damaged = 6
-number_of (Absent n) = 7
+-- a map's number as an answer has it
+abbrev pub given : math.Option ℕ → Option ℕ
+given (math.some z) = Some z
+given math.none = None
 
 -- "Absent .. write the trail and return its number; all others return zero counts"
-abbrev pub values_of : Fetched → List ℕ
-values_of (Found n z) = n ∷ z ∷ []
-values_of BadLength = 0 ∷ 0 ∷ []
-values_of BadPrefix = 0 ∷ 0 ∷ []
-values_of ShortOut = 0 ∷ 0 ∷ []
-values_of Damaged = 0 ∷ 0 ∷ []
-values_of (Absent n) = n ∷ 0 ∷ []
+abbrev pub values_of : Result (Keyed ℕ) Refusal → List ℕ
+values_of (Ok x) = x.nodes ∷ x.value ∷ []
+values_of (Err e) = nodes_in e ∷ 0 ∷ []
 
 -- "Fetch gives the stored number"; No. 7, Absent: "remove or fetch of a prefix not stored"
-abbrev pub gives : ℕ → Option ℕ → Fetched
-gives n (some z) = Found n z
-gives n none = Absent n
+abbrev pub gives : ℕ → math.Option ℕ → Result (Keyed ℕ) Refusal
+gives n (math.some z) = Ok (record { nodes = n; value = z })
+gives n math.none = Err (Absent n)
 
 -- ---- what `fetch` promises: words ws, key k, trail bytes bs before and as after
 
-pub record Fetch (ws : List ℕ) (k : Prefix) (bs : List ℕ) (r : Fetched) (after : List ℕ) : Type 0 where
+pub record Fetch (ws : List ℕ) (k : Prefix) (bs : List ℕ) (r : Result (Keyed ℕ) Refusal) (after : List ℕ) : Type 0 where
   -- on any words the answer and the trail are one function's value, so nothing else meets it
   pub answer : fetch_on ws k bs ≡ record { answer = r; bytes = after }
   -- "The first that applies, in this order, is given"

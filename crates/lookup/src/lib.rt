@@ -6,13 +6,13 @@
 
 ghost use Rattle.std.specs.Prelude.{◌≤◌, ◌≡◌, length};
 ghost use Rattle.std.proofs.Math.Seq.{paste};
-ghost use Rattle.lookup.specs.Walking.{survey_on};
-ghost use Rattle.lookup.specs.Reading.{read_on, nodes_of};
-ghost use Rattle.lookup.specs.Fetching.{found_of, Fetch};
-ghost use Rattle.lookup.specs.Matching.{match_of, LongestMatch};
-ghost use Rattle.lookup.specs.declared.Walk.{Walk};
+ghost use Rattle.lookup.specs.Walking.{stored_in, refuse_on, survey_on};
+ghost use Rattle.lookup.specs.Fetching.{Fetch};
+ghost use Rattle.lookup.specs.Matching.{LongestMatch};
 
-use prefix::Prefix;
+use descent::Last;
+use prefix::{Key, Prefix};
+use refusals::Refusal;
 
 mod descent; // the upper part of a walk, in few instructions
 mod steps; // the walk, step by step
@@ -22,198 +22,145 @@ pub const TRAIL: usize = 129;
 
 // ---- fetch
 
-// What `fetch` answers. The first number of Found and of Absent is how many nodes the path has.
-#[derive(Clone, Copy)]
-pub enum Fetched {
-    Found(usize, u32),
-    BadLength,
-    BadPrefix,
-    ShortOut,
-    Damaged,
-    Absent(usize),
+// What a keyed call gives: how many nodes the key's path has, and its own value.
+#[derive(Clone, Copy, Debug, PartialEq, Eq)]
+pub struct Keyed<T> {
+    pub nodes: usize,
+    pub value: T,
 }
 
-// The zone number stored for k. Found and Absent write the widths of the path's nodes at the start
-// of the trail and leave the bytes after them; every other answer leaves the trail.
-pub fn fetch(table: &[u32], k: Prefix, trail: &mut [u8]) -> Fetched
+// The zone number stored for k. Where it is given, and where it is Absent, the widths of the path's nodes stand
+// at the start of the trail, and the bytes after them stay; every other refusal leaves the trail.
+pub fn fetch(table: &[u32], k: Prefix, trail: &mut [u8]) -> Result<Keyed<u32>, Refusal>
     ensures { Fetch table.now k trail.old result trail.new }
 {
-    let x = read(table, k, trail);
-    match x {
-        Reading::BadLength => Fetched::BadLength,
-        Reading::BadPrefix => Fetched::BadPrefix,
-        Reading::ShortOut => Fetched::ShortOut,
-        Reading::Damaged => Fetched::Damaged,
-        Reading::Path(n, best, zone) => found_at(k, n, best, zone),
+    let x = longest_match(table, k, trail)?;
+    match stored_at(x.value, k.width) {
+        Some(zone) => Ok(Keyed {
+            nodes: x.nodes,
+            value: zone,
+        }),
+        None => Err(Refusal::Absent(x.nodes)),
     }
 }
 
-fn found_at(k: Prefix, n: usize, best: u32, zone: u32) -> Fetched
-    ensures { (s : Walk) → s.best ≡ best → s.zone ≡ zone → result ≡ found_of k n s }
+// The number of a key of this width itself, by its longest stored prefix.
+pub fn stored_at(longest: Option<Match>, width: u32) -> Option<u32>
+    ensures { result ≡ stored_in width longest }
 {
-    if best == 0 {
-        return Fetched::Absent(n);
+    match longest {
+        Some(m) if m.width == width => Some(m.zone),
+        _ => None,
     }
-    if best - 1 == k.width {
-        return Fetched::Found(n, zone);
-    }
-    Fetched::Absent(n)
 }
 
 // ---- longest match
 
-// What `longest_match` answers. The first number of Match and of NoMatch is how many nodes the path
-// has; a match has its width and its zone number.
-#[derive(Clone, Copy)]
-pub enum Matched {
-    Match(usize, u32, u32),
-    NoMatch(usize),
-    BadLength,
-    BadPrefix,
-    ShortOut,
-    Damaged,
+// A stored prefix of a key, by its width, and its zone number.
+#[derive(Clone, Copy, Debug, PartialEq, Eq)]
+pub struct Match {
+    pub width: u32,
+    pub zone: u32,
 }
 
-// The longest stored prefix of k. Match and NoMatch write the trail as `fetch` does; every other
-// answer leaves it.
-pub fn longest_match(table: &[u32], k: Prefix, trail: &mut [u8]) -> Matched
+// The longest stored prefix of k, or none. An answer writes the trail as `fetch` does, and a refusal leaves it:
+// so the widths go to a local array first, since a Damaged call leaves the trail alone.
+pub fn longest_match(
+    table: &[u32],
+    k: Prefix,
+    trail: &mut [u8],
+) -> Result<Keyed<Option<Match>>, Refusal>
     ensures { LongestMatch table.now k trail.old result trail.new }
 {
-    let x = read(table, k, trail);
-    match x {
-        Reading::BadLength => Matched::BadLength,
-        Reading::BadPrefix => Matched::BadPrefix,
-        Reading::ShortOut => Matched::ShortOut,
-        Reading::Damaged => Matched::Damaged,
-        Reading::Path(n, best, zone) => match_at(n, best, zone),
-    }
+    refuse(table.len(), k, trail.len())?;
+    let mut widths = [0u8; TRAIL];
+    let x = steps::walk_path::<()>(table, Key { prefix: k }, &mut widths)?;
+    copy_first(&widths, x.nodes, trail);
+    Ok(Keyed {
+        nodes: x.nodes,
+        value: x.walk.longest,
+    })
 }
 
-fn match_at(n: usize, best: u32, zone: u32) -> Matched
-    ensures { (s : Walk) → s.best ≡ best → s.zone ≡ zone → result ≡ match_of n s }
+// The refusals of a keyed call before its walk, in their order: on a table of so many words, and with a trail of
+// `room` bytes.
+// Stays without the key in its answer: handing it on takes some 20 instructions more in a store.
+#[tactic(auto, unfolding(crate::specs::Walking::refuse_on))]
+fn refuse(words: usize, k: Prefix, room: usize) -> Result<(), Refusal>
+    ensures { result ≡ refuse_on words k room }
 {
-    if best == 0 {
-        return Matched::NoMatch(n);
-    }
-    Matched::Match(n, best - 1, zone)
-}
-
-// ---- what both read
-
-// What comes of reading a key's path: how many nodes it has, and the longest stored prefix, as its width
-// plus 1 (0 for none) and its zone number; or a refusal.
-#[derive(Clone, Copy)]
-pub enum Reading {
-    Path(usize, u32, u32),
-    BadLength,
-    BadPrefix,
-    ShortOut,
-    Damaged,
-}
-
-// The refusals of a read in their order, then its walk, and then the trail. The widths go to a local array
-// first, since a Damaged call leaves the trail alone.
-fn read(table: &[u32], k: Prefix, trail: &mut [u8]) -> Reading
-    ensures { read_on table.now k trail.old ≡ record { answer = result; bytes = trail.new } }
-{
-    if !records::is_table(table.len()) {
-        return Reading::BadLength;
+    if !records::is_table(words) {
+        return Err(Refusal::BadLength);
     }
     if !prefix::valid(k) {
-        return Reading::BadPrefix;
+        return Err(Refusal::BadPrefix);
     }
-    if trail.len() < TRAIL {
-        return Reading::ShortOut;
+    if room < TRAIL {
+        return Err(Refusal::ShortOut(TRAIL));
     }
-    let mut widths = [0u8; TRAIL];
-    let x = steps::read_path(table, k, &mut widths);
-    copy_first(&widths, nodes_of(x), trail);
-    x
-}
-
-// How many nodes a reading has widths of.
-fn nodes_of(x: Reading) -> usize
-    ensures { result ≡ nodes_of x }
-{
-    match x {
-        Reading::Path(n, _, _) => n,
-        Reading::BadLength => 0,
-        Reading::BadPrefix => 0,
-        Reading::ShortOut => 0,
-        Reading::Damaged => 0,
-    }
+    Ok(())
 }
 
 // ---- the walk
 
 // Where a walk stands: the links of the last three nodes that are prefixes of the key (0 for none),
 // the link to look at next, and how many bits of the key a node there must share; and the longest
-// stored prefix so far, as its width plus 1 (0 for none) and its zone number.
-#[derive(Clone, Copy)]
+// stored prefix so far.
+#[derive(Clone, Copy, Debug, PartialEq, Eq)]
 pub struct Walk {
     pub at: u32,
     pub up: u32,
     pub over: u32,
     pub next: u32,
     pub low: u32,
-    pub best: u32,
-    pub zone: u32,
+    pub longest: Option<Match>,
 }
 
 // What a step finds: a node that is a prefix of the key, with its width and where the walk goes on;
-// a node that is none, with its width and how many bits it shares; no node; words that no table has.
-#[derive(Clone, Copy)]
+// a node that is none, with its width and how many bits it shares; no node.
+#[derive(Clone, Copy, Debug, PartialEq, Eq)]
 pub enum Step {
     Down(u32, Walk),
     Last(u32, u32),
     End,
-    Bad,
 }
 
 // The node that a walk ends at: the last that is a prefix of the key (0 for none), or one that is
 // none, with how many bits it shares.
-#[derive(Clone, Copy)]
+#[derive(Clone, Copy, Debug, PartialEq, Eq)]
 pub enum Met {
     Matching(u32),
     Mismatching(u32, u32),
 }
 
-// What comes of surveying a key's path: how many nodes it has, where the walk stood at its end and
-// what it met there, or a refusal.
-#[derive(Clone, Copy)]
-pub enum Surveyed {
-    Path(usize, Walk, Met),
-    BadLength,
-    BadPrefix,
-    ShortOut,
-    Damaged,
+// A key's path: how many nodes it has, where the walk stood at its end, and what it met there.
+#[derive(Clone, Copy, Debug, PartialEq, Eq)]
+pub struct Path {
+    pub nodes: usize,
+    pub walk: Walk,
+    pub met: Met,
 }
 
 // The refusals of an edit in their order, and then its walk. `room` is the length of the lent trail; the
-// widths go to a local array, since a Damaged call leaves the trail alone.
-pub fn survey(table: &[u32], k: Prefix, room: usize, widths: &mut [u8; 129]) -> Surveyed
+// widths go to a local array, since a Damaged call leaves the trail alone. In line in both edits, where its answer
+// then takes no memory: that saves a store some ten instructions.
+#[inline(always)]
+pub fn survey(
+    table: &[u32],
+    k: Prefix,
+    room: usize,
+    widths: &mut [u8; TRAIL],
+) -> Result<Path, Refusal>
     ensures { survey_on table.now k room widths.entry.now ≡ record { widths = widths.exit.now; out = result } }
 {
-    if !records::is_table(table.len()) {
-        return Surveyed::BadLength;
-    }
-    if !prefix::valid(k) {
-        return Surveyed::BadPrefix;
-    }
-    if room < TRAIL {
-        return Surveyed::ShortOut;
-    }
-    steps::walk_path(table, k, widths)
+    refuse(table.len(), k, room)?;
+    steps::walk_path::<Last>(table, Key { prefix: k }, widths)
 }
 
 // Copies the first n bytes.
-pub fn copy_first(from: &[u8; 129], n: usize, to: &mut [u8])
+pub fn copy_first(from: &[u8; TRAIL], n: usize, to: &mut [u8])
     requires { (n ≤ 129) × (n ≤ length to.old) × (length from.now ≡ 129) }
     ensures { to.new ≡ paste to.old 0 from.now n }
 {
-    let mut i: usize = 0;
-    while i < n {
-        to[i] = from[i];
-        i += 1;
-    }
+    to[..n].copy_from_slice(&from[..n]);
 }

@@ -1,59 +1,44 @@
 // The path walk on any words: the upper nodes by a descent, the others step by step.
 ghost use Rattle.std.specs.Prelude.{◌-◌, ◌≤◌, ◌≡◌, true, length};
 ghost use Rattle.records.specs.Layout.{is_table};
-ghost use Rattle.lookup.specs.Reading.{read_of, Walked};
+ghost use Rattle.lookup.specs.Reading.{Walked};
 ghost use Rattle.lookup.specs.Walking.{side_on, down_on, seen_on, step_on, walk_on, walk_from};
 
-use crate::{Met, Reading, Step, Surveyed, Walk, descent};
-use prefix::Prefix;
+use crate::descent::Note;
+use crate::{Match, Met, Path, Step, TRAIL, Walk, descent};
+use prefix::Key;
 use records::Record;
+use refusals::Refusal;
 
 // Walks the path of k from the top, and writes the widths of its nodes. The upper nodes are passed by
-// a descent.
-pub fn walk_path(table: &[u32], k: Prefix, widths: &mut [u8; 129]) -> Surveyed
-    requires { (is_table (length table.now) ≡ true) × (k.width ≤ 128) }
-    ensures { walk_from table.now k widths.entry.now ≡ record { widths = widths.exit.now; out = result } }
+// a descent; the walk has links where it notes the last nodes.
+pub fn walk_path<N: Note>(table: &[u32], k: Key, widths: &mut [u8; TRAIL]) -> Result<Path, Refusal>
+    requires { is_table (length table.now) ≡ true }
+    ensures { Walked N.noted (walk_from table.now k.prefix widths.old) result widths.new }
 {
     let h = records::read_header(table);
-    let t = descent::trace(table, k, h.root, widths);
-    let s = descent::walk_of(table, t.to, t.last);
-    walk_on(table, k, t.to.n, s, widths)
+    let (d, note) = descent::descend::<N>(table, k.prefix, h.root, widths);
+    let s = descent::walk_of(table, d, note.last());
+    walk_on(table, k, d.n, s, widths)
 }
 
-// The same for a read, which asks for no link: the walk carries none.
-pub fn read_path(table: &[u32], k: Prefix, widths: &mut [u8; 129]) -> Reading
-    requires { (is_table (length table.now) ≡ true) × (k.width ≤ 128) }
-    ensures { Walked (walk_from table.now k widths.old) result widths.new }
-{
-    let h = records::read_header(table);
-    let d = descent::descend(table, k, h.root, widths);
-    let s = descent::walk_of(table, d, 0);
-    reading_of(walk_on(table, k, d.n, s, widths))
-}
-
-// What a read keeps of a walk.
-fn reading_of(x: Surveyed) -> Reading
-    ensures { result ≡ read_of x }
-{
-    match x {
-        Surveyed::Path(n, s, _) => Reading::Path(n, s.best, s.zone),
-        Surveyed::BadLength => Reading::BadLength,
-        Surveyed::BadPrefix => Reading::BadPrefix,
-        Surveyed::ShortOut => Reading::ShortOut,
-        Surveyed::Damaged => Reading::Damaged,
-    }
-}
-
-// Goes on step by step from where a walk stands after some nodes, to the end of the path.
-fn walk_on(table: &[u32], k: Prefix, nodes: usize, from: Walk, widths: &mut [u8; 129]) -> Surveyed
-    requires { (k.width ≤ 128) × (nodes ≤ from.low) × (from.low ≤ 129) }
-    ensures { walk_on (130 - nodes) table.now k nodes widths.entry.now from ≡ record { widths = widths.exit.now; out = result } }
+// Goes on step by step from where a walk stands after some nodes, to the end of the path. In line in both of its
+// callers, where its answer then takes no memory: that saves every call some 100 instructions.
+#[inline(always)]
+fn walk_on(
+    table: &[u32],
+    k: Key,
+    nodes: usize,
+    from: Walk,
+    widths: &mut [u8; TRAIL],
+) -> Result<Path, Refusal>
+    requires { (nodes ≤ from.low) × (from.low ≤ 129) }
+    ensures { walk_on (130 - nodes) table.now k.prefix nodes widths.entry.now from ≡ record { widths = widths.exit.now; out = result } }
 {
     let mut n = nodes;
     let mut s = from;
     let met = loop {
-        let x = step_at(table, k, s);
-        match x {
+        match step_at(table, k, s)? {
             Step::Down(w, d) => {
                 widths[n] = w as u8;
                 n += 1;
@@ -67,84 +52,81 @@ fn walk_on(table: &[u32], k: Prefix, nodes: usize, from: Walk, widths: &mut [u8;
             Step::End => {
                 break Met::Matching(s.at);
             }
-            Step::Bad => {
-                return Surveyed::Damaged;
-            }
         }
     };
-    Surveyed::Path(n, s, met)
+    Ok(Path {
+        nodes: n,
+        walk: s,
+        met,
+    })
 }
 
 // One step: the record of the next link, if there is one.
-fn step_at(table: &[u32], k: Prefix, s: Walk) -> Step
-    requires { k.width ≤ 128 }
-    ensures { result ≡ step_on table.now k s }
+#[tactic(auto, unfolding(crate::specs::Walking::step_on))]
+fn step_at(table: &[u32], k: Key, s: Walk) -> Result<Step, Refusal>
+    ensures { result ≡ step_on table.now k.prefix s }
 {
     let next = s.next;
     if next == 0 {
-        return Step::End;
+        return Ok(Step::End);
     }
     if !records::has_room(table.len(), next) {
-        return Step::Bad;
+        return Err(Refusal::Damaged); // outside the table
     }
     seen(records::read_record(table, next), k, s)
 }
 
 // What a step makes of the record that it reads.
-fn seen(r: Record, k: Prefix, s: Walk) -> Step
-    requires { k.width ≤ 128 }
-    ensures { result ≡ seen_on r k s }
+#[tactic(auto, unfolding(crate::specs::Walking::seen_on, crate::specs::Walking::shared_on))]
+fn seen(r: Record, k: Key, s: Walk) -> Result<Step, Refusal>
+    ensures { result ≡ seen_on r k.prefix s }
 {
     let w = r.tag / 2;
     if 128 < w {
-        return Step::Bad;
+        return Err(Refusal::Damaged); // wider than any prefix
     }
-    let b = prefix::shared(records::key_of(r), k);
+    let b = prefix::shared(records::key_of(r), k.prefix);
     if b < s.low {
-        return Step::Bad;
+        return Err(Refusal::Damaged); // not below the node where it hangs
     }
     if b < w {
-        return Step::Last(w, b);
+        return Ok(Step::Last(w, b));
     }
-    Step::Down(w, down(r, k, s))
+    Ok(Step::Down(w, down(r, k, s)))
 }
 
 // Where the walk goes on from a node that is a prefix of the key.
-fn down(r: Record, k: Prefix, s: Walk) -> Walk
-    requires { k.width ≤ 128 }
-    ensures { result ≡ down_on r k s }
+#[tactic(auto, unfolding(crate::specs::Walking::down_on))]
+fn down(r: Record, k: Key, s: Walk) -> Walk
+    ensures { result ≡ down_on r k.prefix s }
 {
-    let w = r.tag / 2;
-    let next = side(r, k, w);
-    if r.tag % 2 == 1 {
-        return Walk {
-            at: s.next,
-            up: s.at,
-            over: s.up,
-            next,
-            low: w + 1,
-            best: w + 1,
+    let width = r.tag / 2;
+    let next = side(r, k, width);
+    let longest = if r.tag % 2 == 1 {
+        Some(Match {
+            width,
             zone: r.zone,
-        };
-    }
+        })
+    } else {
+        s.longest
+    };
     Walk {
         at: s.next,
         up: s.at,
         over: s.up,
         next,
-        low: w + 1,
-        best: s.best,
-        zone: s.zone,
+        low: width + 1,
+        longest,
     }
 }
 
 // The link of the side that k goes on by at a node of width w, or 0 where k ends there.
-fn side(r: Record, k: Prefix, w: u32) -> u32
-    requires { k.width ≤ 128 }
-    ensures { result ≡ side_on r k w }
+#[tactic(auto, unfolding(crate::specs::Walking::side_on, crate::specs::Walking::agree_on))]
+fn side(r: Record, k: Key, w: u32) -> u32
+    ensures { result ≡ side_on r k.prefix w }
 {
-    if w < k.width {
-        if w < prefix::agree(records::key_of(r), k) {
+    if w < k.prefix.width {
+        if w < prefix::agree(records::key_of(r), k.prefix) {
             return r.left;
         }
         return r.right;

@@ -6,14 +6,13 @@ use native.Mathlib.Omega.{arith}
 use mathlib.Core.Path.{◌≡◌, ap, ◌∙◌}
 use mathlib.Core.List.{List, ◌++◌, append_assoc}
 use lib.ListN.{length, replicate, length-append, length-replicate}
+use Rattle.std.specs.Prelude.{Some}
 use Rattle.zones.specs.Maps.{Map}
 use Rattle.image.specs.Bytes.{short}
 use Rattle.image.specs.Image.{size24, Fork, forks_of, zones_of, data_of, tree_bytes, image_of, image, IsImage}
 use Rattle.image.proofs.LengthLaws.{length-tree_bytes}
 use Rattle.image.proofs.NodeCountLaws.{length-forks_of_pos, length-forks_of-fits}
 use Rattle.metadata.specs.Frames.{tail_of, count_on, frame_on}
-use Rattle.metadata.specs.declared.Counted.TheVariants as counted
-use Rattle.metadata.specs.declared.Framed.TheVariants as framed
 use Rattle.metadata.proofs.FramesLaws.{count_on-tail, frame_on-tail}
 
 -- the search tree, 16 zero bytes and the data section
@@ -33,14 +32,14 @@ module _ {bs : List ℕ} {m : Map} {epoch : ℕ} (h : IsImage size24 bs m epoch)
   unfolding image
   image_parts = h.bytes_are ∙ image_of_parts epoch (forks_of m)
 
-  pub count_on-image : count_on bs ≡ counted.Nodes (length (forks_of m)) (length (short (length (forks_of m)))) (length (short epoch))
+  pub count_on-image : count_on bs ≡ Some (record { count = length (forks_of m); width = length (short (length (forks_of m))); epoch_width = length (short epoch) })
   count_on-image =
       let some : 0 < length (forks_of m) = length-forks_of_pos m in
       ap count_on image_parts
       ∙ count_on-tail (front_of (forks_of m)) (length (forks_of m)) epoch (omega (arith, length-front_of (forks_of m))) some
       (length-forks_of-fits size24 m h.records_fit) h.epoch_fits
 
-  pub frame_on-image : frame_on bs ≡ framed.Frame (length (forks_of m)) (length (front_of (forks_of m))) epoch
+  pub frame_on-image : frame_on bs ≡ Some (record { nodes = length (forks_of m); start = length (front_of (forks_of m)); epoch = epoch })
   frame_on-image =
       let some : 0 < length (forks_of m) = length-forks_of_pos m in
       ap frame_on image_parts

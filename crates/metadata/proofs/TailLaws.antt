@@ -29,9 +29,9 @@ pub length-opening : length opening ≡ 15
 unfolding opening marker
 length-opening = refl
 
-pub length-between : length between ≡ 113
+pub length_between : length between ≡ 113
 unfolding between text uint16 short
-length-between = refl
+length_between = refl
 
 pub tail_of_parts : (n epoch : ℕ) → tail_of n epoch
     ≡ opening ++ (text (ascii "node_count") ++ (uint32 n ++ (between ++ (text (ascii "build_epoch") ++ uint64 epoch))))
@@ -40,7 +40,7 @@ tail_of_parts n epoch = simp append_assoc
 
 pub length-tail_of : (n epoch : ℕ) → length (tail_of n epoch) ≡ 154 + length (short n) + length (short epoch)
 unfolding tail_of marker
-length-tail_of n epoch = simp (length-append, length-metadata) (omega arith)
+length-tail_of n epoch = simp (length-metadata) (omega arith)
 
 -- ---- steps_back
 
@@ -82,7 +82,7 @@ module _ (front : List ℕ) (n epoch : ℕ) where
   epoch_bytes-tail =
       let pre : List ℕ = front ++ (opening ++ (text (ascii "node_count") ++ (uint32 n ++ between))) in
       let split : front ++ tail_of n epoch ≡ pre ++ (text (ascii "build_epoch") ++ uint64 epoch) = rw (tail_of_parts n epoch) (simp append_assoc) in
-      let l : length pre ≡ length front + (140 + length (short n)) = simp (length-append, length-opening, length-between) (omega arith) in
+      let l : length pre ≡ length front + (140 + length (short n)) = simp (length-append, length-opening, length_between) (omega arith) in
       ap (λ (bs : List ℕ). steps_back bs (length (front ++ tail_of n epoch) - 14) 0x4B 9) split
       ∙ steps_back_key pre (ascii "build_epoch") (uint64 epoch) 0x4B (length (short epoch)) 9 (length (front ++ tail_of n epoch) - 14) tt
       (omega (arith, length_short epoch)) (omega (arith, length_short epoch)) (omega (arith, length_whole))

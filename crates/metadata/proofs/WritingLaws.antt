@@ -2,29 +2,24 @@
 -- the loops, and for each way out. No contract cites this file.
 -- Assumes nothing.
 use Prim.Native.Nat.{ℕ, zero, suc, ◌+◌, ◌-◌, ◌*◌, ◌/◌, ◌%◌, ◌^◌, ◌≤◌, ◌<◌}
-use native.Mathlib.Nat.{add-zero, add-suc, add_assoc, mul_assoc, add-mul, pow-suc, pow-le-pow_right, lt_of_lt_of_le}
+use native.Mathlib.Nat.{add-zero, zero-add, add_assoc, mul_assoc, add-mul, pow-suc, pow-le-pow_right, lt_of_lt_of_le}
 use native.Mathlib.Numerals.{add-one}
 use native.Mathlib.Omega.{arith}
-use mathlib.Core.Path.{◌≡◌, refl, sym, ap, subst, ◌∙◌}
-use mathlib.Core.List.{List, [], ◌∷◌, ◌++◌}
+use mathlib.Core.Path.{◌≡◌, refl, sym, ap, ◌∙◌}
+use mathlib.Core.List.{List, [], ◌∷◌, ◌++◌, append_assoc}
 use lib.Arith.{digits_lt}
 use lib.Dec.{lit<}
-use lib.ListN.{length, take, drop, get_or, set, length-set, length-append, length-drop}
-use lib.Seq.{sets, drop-cons, drop-length, take-suc, get_or-drop}
-use Rattle.image.specs.Bytes.{bytes_of, short, uint32, uint64}
+use lib.ListN.{length, take, drop, get_or, length-append, length-drop}
+use lib.Seq.{sets, sets-eq, length-sets, drop-drop, take-suc, take_all, get_or-drop}
+use borrow.Rule.Slice.PartMut.{put_mid}
+use Rattle.std.specs.Int.{byte_at, bytes_high_first}
+use Rattle.std.proofs.lemmas.List.{length-take-le}
+use Rattle.image.specs.Bytes.{bytes_of, short}
 use Rattle.image.proofs.LengthLaws.{length-bytes_of}
-use Rattle.image.proofs.BytesLaws.{short-lowest, pow_bytes}
+use Rattle.image.proofs.BytesLaws.{short-lowest}
 use Rattle.image.proofs.SetsLaws.{sets-append}
 use Rattle.metadata.specs.Frames.{value_of, number_at}
 use Rattle.metadata.specs.Writing.{Put, NumberAt}
-
--- ---- sets
-
-module _ {A : Type 0} where
-  -- one more element of s
-  pub sets-drop : (out : List A) (at i : ℕ) (s : List A) (d : A) → i < length s
-      → sets (set out (at + i) (get_or s i d)) (at + (i + 1)) (drop (i + 1) s) ≡ sets out (at + i) (drop i s)
-  sets-drop out at i s d h = rw (add-one i, add-suc at i, drop-cons s i d h)
 
 -- ---- Put
 
@@ -37,47 +32,43 @@ module _ {old mid new vs ws : List ℕ} {at r q : ℕ} where
         room = k.room ∙ h.room;
       }
 
--- at the end of s
-pub put_done : (old out s : List ℕ) (at i : ℕ) → i ≡ length s → length out ≡ length old → sets out (at + i) (drop i s) ≡ sets old at s
-    → Put old at s out (at + i)
-put_done old out s at i e l h =
-    record { bytes = rw (e, drop-length s) at h; end = ap (λ (n : ℕ). at + n) e; room = l }
+-- a part that is written whole
+pub put-part : (old s : List ℕ) (at k : ℕ) (ys : List ℕ) → at + length s ≤ length old → k ≡ length s → ys ≡ s
+    → Put old at s (put_mid at k old ys) (at + length s)
+put-part old s at k ys h e q =
+    let is : put_mid at k old ys ≡ sets old at s =
+    rw (q, e, sets-eq s old at h) (simp (append_assoc, drop-drop)) in
+    record { bytes = is; end = refl; room = ap length is ∙ length-sets old at s }
 
-pub put-bytes_of : (old out : List ℕ) (at p n v : ℕ) → p ≡ at + n → length out ≡ length old → out ≡ sets old at (bytes_of n v) → Put old at (bytes_of n v) out p
-put-bytes_of old out at p n v e l h = record { bytes = h; end = rw (length-bytes_of n v) e; room = l }
-
--- one byte first
-put_cons : {old new vs : List ℕ} {at r : ℕ} (b : ℕ) → Put (set old at b) (at + 1) vs new r → Put old at (b ∷ vs) new r
-put_cons {old} {new} {vs} {at} {r} b h =
-    record {
-      bytes = rw (add-one at) at h.bytes;
-      end = omega (arith, h.end);
-      room = h.room ∙ length-set old at b;
-    }
-
-put_short : {old new : List ℕ} {at r : ℕ} (n v : ℕ) → n ≡ length (short v) → Put old at (bytes_of n v) new r → Put old at (short v) new r
-put_short {old} {new} {at} {r} n v e h =
-    subst (λ (vs : List ℕ). Put old at vs new r) (ap (λ (k : ℕ). bytes_of k v) e ∙ sym (short-lowest v)) h
-
-pub put-uint32 : {old new : List ℕ} {at r : ℕ} (n v : ℕ) → n ≡ length (short v) → Put (set old at (0xC0 + n)) (at + 1) (bytes_of n v) new r
-    → Put old at (uint32 v) new r
-unfolding uint32
-put-uint32 n v e h = rw (← e) (put_cons (0xC0 + n) (put_short n v e h))
-
-pub put-uint64 : {old new : List ℕ} {at r : ℕ} (n v : ℕ) → n ≡ length (short v) → Put (set (set old at n) (at + 1) 2) (at + 2) (bytes_of n v) new r
-    → Put old at (uint64 v) new r
-unfolding uint64
-put-uint64 {at = at} n v e h =
-    let q : at + 2 ≡ at + 1 + 1 = omega arith in
-    rw (← e) (put_cons n (put_cons 2 (put_short n v e (rw q at h))))
+-- control bytes, then a number without leading zero bytes
+pub put-number : {old new : List ℕ} {at r : ℕ} (control : List ℕ) (n v : ℕ) → n ≡ length (short v)
+    → Put (sets old at control) (at + length control) (bytes_of n v) new r → Put old at (control ++ short v) new r
+put-number {old} {new} {at} {r} control n v e h =
+    let front : Put old at control (sets old at control) (at + length control) =
+    record { bytes = refl; end = refl; room = length-sets old at control } in
+    let is : bytes_of n v ≡ short v = ap (λ (k : ℕ). bytes_of k v) e ∙ sym (short-lowest v) in
+    put-append front (rw is at h)
 
 -- ---- bytes_of
 
--- one more byte of v
-pub sets-bytes_of : (out : List ℕ) (p left v : ℕ) → 0 < left
-    → sets (set out p (v / 2 ^ (8 * (left - 1)) % 256)) (p + 1) (bytes_of (left - 1) v) ≡ sets out p (bytes_of left v)
-sets-bytes_of out p zero v h = absurd (omega arith)
-sets-bytes_of out p (suc n) v h = let e : suc n - 1 ≡ n = omega arith in rw (e, add-one p, pow_bytes n)
+byte_at-is : (k v : ℕ) → byte_at k v ≡ v / 256 ^ k % 256
+byte_at-is zero v = grind arith
+byte_at-is (suc k) v = refl
+
+bytes_high_first-is : (n v : ℕ) → bytes_high_first n v ≡ bytes_of n v
+bytes_high_first-is zero v = refl
+bytes_high_first-is (suc n) v = cc (byte_at-is n v, bytes_high_first-is n v)
+
+drop-bytes_of : (d n v : ℕ) → drop d (bytes_of (d + n) v) ≡ bytes_of n v
+drop-bytes_of zero n v = ap (λ (k : ℕ). bytes_of k v) (zero-add n)
+drop-bytes_of (suc d) n v = let e : suc d + n ≡ suc (d + n) = omega arith in rw e (drop-bytes_of d n v)
+
+-- the last n of its eight bytes
+pub last-bytes : (bs : List ℕ) (n v : ℕ) → bs ≡ bytes_high_first 8 v → n ≤ 8 → take (8 - (8 - n)) (drop (8 - n) bs) ≡ bytes_of n v
+last-bytes bs n v q h =
+    let e : 8 - n + n ≡ 8 = omega arith in
+    let last : drop (8 - n) bs ≡ bytes_of n v = ap (drop (8 - n)) (q ∙ bytes_high_first-is 8 v) ∙ (rw e at (drop-bytes_of (8 - n) n v)) in
+    rw last (take_all (8 - (8 - n)) (bytes_of n v) (omega (arith, length-bytes_of n v)))
 
 -- ---- number_at
 
@@ -87,16 +78,19 @@ value_of-snoc (x ∷ bs) b =
     rw (length-append bs (b ∷ []), add-one (length bs), pow-suc 256 (length bs), value_of-snoc bs b)
     (simp (add-mul, mul_assoc, add_assoc))
 
-pub number_at_zero : (bs : List ℕ) (at : ℕ) → number_at bs at 0 ≡ 0
+-- one more byte
+pub value_of_next : (bs : List ℕ) (i : ℕ) → i < length bs → value_of (take (i + 1) bs) ≡ value_of (take i bs) * 256 + get_or bs i 0
+value_of_next bs i h = rw (add-one i, take-suc bs i 0 h) (value_of-snoc (take i bs) (get_or bs i 0))
+
+number_at_zero : (bs : List ℕ) (at : ℕ) → number_at bs at 0 ≡ 0
 unfolding number_at
 number_at_zero bs at = refl
 
--- one more byte
-pub number_at_next : (bs : List ℕ) (at i : ℕ) → at + i < length bs → number_at bs at (i + 1) ≡ number_at bs at i * 256 + get_or bs (at + i) 0
+number_at_next : (bs : List ℕ) (at i : ℕ) → at + i < length bs → number_at bs at (i + 1) ≡ number_at bs at i * 256 + get_or bs (at + i) 0
 unfolding number_at
 number_at_next bs at i h =
     let l : i < length (drop at bs) = omega (arith, length-drop at bs) in
-    rw (add-one i, take-suc (drop at bs) i 0 l, get_or-drop at bs i 0) (value_of-snoc (take i (drop at bs)) (get_or bs (at + i) 0))
+    rw (value_of_next (drop at bs) i l, get_or-drop at bs i 0)
 
 pub next-lt : (v b i : ℕ) → v < 256 ^ i → b < 256 → v * 256 + b < 256 ^ (i + 1)
 next-lt v b i h k = rw (add-one i, pow-suc 256 i) (digits_lt h k)
@@ -105,8 +99,14 @@ next-lt v b i h k = rw (add-one i, pow-suc 256 i) (digits_lt h k)
 pub next_fits : (v b i n : ℕ) → v < 256 ^ i → b < 256 → i < n → n ≤ 8 → v * 256 + b < 2 ^ 64
 next_fits v b i n h k l m = lt_of_lt_of_le (next-lt v b i h k) (pow-le-pow_right {n = 256} (lit< tt) {i = i + 1} {j = 8} (omega arith))
 
-pub number-at : (bs : List ℕ) (at i n v : ℕ) → i ≡ n → v ≡ number_at bs at i → v < 256 ^ i → NumberAt bs at n v
-number-at bs at i n v e h l = record { number = rw e at h; small = rw e at l }
+-- all of the part
+pub number-at : (bs part : List ℕ) (at n i v : ℕ) → part ≡ take n (drop at bs) → at + n ≤ length bs → i ≡ length part → v ≡ value_of (take i part) → v < 256 ^ i
+    → NumberAt bs at n v
+unfolding number_at
+number-at bs part at n i v p r e h l =
+    let k : length part ≡ n = rw p (length-take-le n (drop at bs) (omega (arith, length-drop at bs))) in
+    let all : take i part ≡ part = take_all i part (omega arith) in
+    record { number = h ∙ ap value_of (all ∙ p); small = rw (e ∙ k) at l }
 
 pub number_at_three : (bs : List ℕ) (at : ℕ) → at + 3 ≤ length bs → get_or bs at 0 < 256 → get_or bs (at + 1) 0 < 256 → get_or bs (at + 2) 0 < 256
     → NumberAt bs at 3 ((get_or bs at 0 * 256 + get_or bs (at + 1) 0) * 256 + get_or bs (at + 2) 0)

@@ -6,12 +6,10 @@
 --   count_on bs           the node count by a few byte tests: right for every image
 --   frame_on bs           the node count and the epoch, where the bytes end as an image does, every byte compared
 -- Assumes nothing.
-use Rattle.std.specs.Prelude.{ℕ, zero, suc, ◌+◌, ◌-◌, ◌*◌, ◌^◌, Bool, true, false, ◌&&◌, cond, List, [], ◌∷◌, ◌++◌, ltb, eqb, length, take, drop, get_or}
+use Rattle.std.specs.Prelude.{ℕ, zero, suc, ◌+◌, ◌-◌, ◌*◌, ◌^◌, cond, List, [], ◌∷◌, ◌++◌, ltb, eqb, bytes_eq, length, take, drop, get_or, Option, Some, None}
 use Rattle.image.specs.Image.{size24, marker, metadata}
-use Rattle.metadata.specs.declared.Counted.{Counted}
-use Rattle.metadata.specs.declared.Counted.TheVariants as counted
-use Rattle.metadata.specs.declared.Framed.{Framed}
-use Rattle.metadata.specs.declared.Framed.TheVariants as framed
+use Rattle.metadata.specs.declared.Nodes.{Nodes}
+use Rattle.metadata.specs.declared.Tail.{Tail}
 
 -- "Big-endian throughout."
 abbrev pub value_of : List ℕ → ℕ
@@ -38,26 +36,24 @@ epoch_bytes bs = steps_back bs (length bs - 14) 0x4B 9
 unfoldable pub nodes_bytes : List ℕ → ℕ → ℕ
 nodes_bytes bs e = 1 + steps_back bs (length bs - e - 140) 0x4A 3
 
+-- the node count of a bytes, where the epoch has e
+abbrev pub nodes_of : List ℕ → ℕ → ℕ → Nodes
+nodes_of bs a e = record { count = number_at bs (length bs - e - 127 - a) a; width = a; epoch_width = e }
+
 -- (177 bytes: the shortest image)
-unfoldable pub count_on : List ℕ → Counted
+unfoldable pub count_on : List ℕ → Option Nodes
 count_on bs =
-    cond (ltb (length bs) 177) counted.Bad
-    (cond (eqb (epoch_bytes bs) 9) counted.Bad
-    (cond (eqb (nodes_bytes bs (epoch_bytes bs)) 4) counted.Bad
-    (counted.Nodes (number_at bs (length bs - epoch_bytes bs - 127 - nodes_bytes bs (epoch_bytes bs)) (nodes_bytes bs (epoch_bytes bs)))
-    (nodes_bytes bs (epoch_bytes bs)) (epoch_bytes bs))))
+    cond (ltb (length bs) 177) None
+    (cond (eqb (epoch_bytes bs) 9) None
+    (cond (eqb (nodes_bytes bs (epoch_bytes bs)) 4) None
+    (Some (nodes_of bs (nodes_bytes bs (epoch_bytes bs)) (epoch_bytes bs)))))
 
-abbrev pub same_bytes : List ℕ → List ℕ → Bool
-same_bytes [] [] = true
-same_bytes [] (b ∷ bs) = false
-same_bytes (a ∷ as') [] = false
-same_bytes (a ∷ as') (b ∷ bs) = eqb a b && same_bytes as' bs
+abbrev pub frame_of : List ℕ → Option Nodes → Option Tail
+frame_of bs None = None
+frame_of bs (Some x) =
+    let start = length bs - (154 + x.width + x.epoch_width) in
+    let epoch = number_at bs (length bs - x.epoch_width) x.epoch_width in
+    cond (bytes_eq (drop start bs) (tail_of x.count epoch)) (Some (record { nodes = x.count; start = start; epoch = epoch })) None
 
-abbrev pub frame_of : List ℕ → Counted → Framed
-frame_of bs counted.Bad = framed.Bad
-frame_of bs (counted.Nodes n a e) =
-    cond (same_bytes (drop (length bs - (154 + a + e)) bs) (tail_of n (number_at bs (length bs - e) e)))
-    (framed.Frame n (length bs - (154 + a + e)) (number_at bs (length bs - e) e)) framed.Bad
-
-unfoldable pub frame_on : List ℕ → Framed
+unfoldable pub frame_on : List ℕ → Option Tail
 frame_on bs = frame_of bs (count_on bs)

@@ -3,12 +3,13 @@
 --   between                 the metadata's bytes from the node count to the epoch's key
 --   Put old at vs new r     the bytes vs stand in new from `at` on, all others are as in old, and r is their end
 --   NumberAt bs at n r      r is the number of n bytes from `at` on
---   Counts bs n a e         what a count says of the bytes that it was read from
+--   Counts bs x             what a count says of the bytes that it was read from
 -- Assumes nothing.
 use Rattle.std.specs.Prelude.{ℕ, ◌+◌, ◌-◌, ◌^◌, ◌≤◌, ◌<◌, ◌≡◌, List, ◌++◌, length}
 use Rattle.std.proofs.lemmas.List.Edits.{sets}
 use Rattle.image.specs.Bytes.{ascii, text, uint16}
 use Rattle.metadata.specs.Frames.{number_at}
+use Rattle.metadata.specs.declared.Nodes.{Nodes}
 
 -- from the node count to the epoch's key
 unfoldable pub between : List ℕ
@@ -27,9 +28,9 @@ pub record NumberAt (bs : List ℕ) (at n r : ℕ) : Type 0 where
   pub number : r ≡ number_at bs at n
   pub small : r < 256 ^ n
 
-pub record Counts (bs : List ℕ) (n a e : ℕ) : Type 0 where
+pub record Counts (bs : List ℕ) (x : Nodes) : Type 0 where
   pub long : 177 ≤ length bs
-  pub few : e ≤ 8
-  pub some : 1 ≤ a
-  pub fits : a ≤ 3
-  pub count : n ≡ number_at bs (length bs - e - 127 - a) a
+  pub few : x.epoch_width ≤ 8
+  pub some : 1 ≤ x.width
+  pub fits : x.width ≤ 3
+  pub number : x.count ≡ number_at bs (length bs - x.epoch_width - 127 - x.width) x.width

@@ -4,23 +4,25 @@
 
 #![tactic(auto)]
 
-ghost use Rattle.std.specs.Prelude.{◌+◌, ◌≤◌, ◌<◌, ◌≡◌, length};
+ghost use Rattle.std.specs.Prelude.{◌+◌, ◌≤◌, ◌<◌, ◌≡◌, IfSome, MatchOption, length};
 ghost use Rattle.image.specs.Bytes.{bytes_of, short, uint32, uint64};
-ghost use Rattle.metadata.specs.Frames.{tail_of, steps_back, count_on, same_bytes, frame_of, frame_on};
+ghost use Rattle.metadata.specs.Frames.{tail_of, steps_back, count_on, frame_on};
 ghost use Rattle.metadata.specs.Writing.{between, Put, NumberAt, Counts};
 
 // What stands at the end of an image: the node count, the bytes that it takes and those of the epoch.
-#[derive(Clone, Copy)]
-pub enum Counted {
-    Nodes(u32, usize, usize),
-    Bad,
+#[derive(Clone, Copy, Debug, PartialEq, Eq)]
+pub struct Nodes {
+    pub count: u32,
+    pub width: usize,
+    pub epoch_width: usize,
 }
 
 // A whole marker and metadata at the end: the node count, where the marker starts, the epoch.
-#[derive(Clone, Copy)]
-pub enum Framed {
-    Frame(u32, usize, u64),
-    Bad,
+#[derive(Clone, Copy, Debug, PartialEq, Eq)]
+pub struct Tail {
+    pub nodes: u32,
+    pub start: usize,
+    pub epoch: u64,
 }
 
 // The bytes of the shortest image: one node, the epoch 0.
@@ -33,21 +35,20 @@ const LONGEST_TAIL: usize = 166;
 pub fn bytes_in(v: u64) -> usize
     ensures { (result ≡ length (short v)) × (result ≤ 8) }
 {
-    let zeros = u64::leading_zeros(v);
+    let zeros = v.leading_zeros();
     8 - (zeros / 8) as usize
 }
 
 // Writes the bytes of s from `at` on, and says where they end.
+// Stays with `out` and `at` beside each other in all that write here: each function of a writer that holds the
+// slice would also have to say that it still holds the same one, beside what stands in it.
 pub fn put(out: &mut [u8], at: usize, s: &[u8]) -> usize
     requires { at + length s.now ≤ length out.old }
     ensures { Put out.old at s.now out.new result }
 {
-    let mut i: usize = 0;
-    while i < s.len() {
-        out[at + i] = s[i];
-        i += 1;
-    }
-    at + i
+    let end = at + s.len();
+    out[at..end].copy_from_slice(s);
+    end
 }
 
 // Writes the n lowest bytes of v, the highest of them first.
@@ -55,18 +56,12 @@ pub fn put_number(out: &mut [u8], at: usize, v: u64, n: usize) -> usize
     requires { (n ≤ 8) × (at + n ≤ length out.old) }
     ensures { Put out.old at (bytes_of n v) out.new result }
 {
-    let mut p = at;
-    let mut left = n;
-    while 0 < left {
-        left -= 1;
-        let byte = (v >> (8 * left as u32)) % 256;
-        out[p] = byte as u8;
-        p += 1;
-    }
-    p
+    let bytes = v.to_be_bytes();
+    put(out, at, &bytes[8 - n..])
 }
 
 // Writes v as a MaxMind uint32: one byte C0 + size, then the number without leading zero bytes.
+#[tactic(auto, unfolding(image::specs::Bytes::uint32))]
 pub fn put_uint32(out: &mut [u8], at: usize, v: u32) -> usize
     requires { at + length (uint32 v) ≤ length out.old }
     ensures { Put out.old at (uint32 v) out.new result }
@@ -78,6 +73,8 @@ pub fn put_uint32(out: &mut [u8], at: usize, v: u32) -> usize
 }
 
 // Writes v as a MaxMind uint64: the size, the byte 02, the number without leading zero bytes.
+// Stays beside `put_uint32`: they differ in what stands before the number, and the number both leave to `put_number`.
+#[tactic(auto, unfolding(image::specs::Bytes::uint64))]
 fn put_uint64(out: &mut [u8], at: usize, v: u64) -> usize
     requires { at + length (uint64 v) ≤ length out.old }
     ensures { Put out.old at (uint64 v) out.new result }
@@ -101,6 +98,7 @@ fn put_between(out: &mut [u8], at: usize) -> usize
 }
 
 // Writes the marker and the metadata of an image of n nodes.
+#[tactic(auto, using(crate::proofs::TailLaws::length_between), unfolding(image::specs::Bytes::uint32, image::specs::Bytes::uint64))]
 pub fn put_tail(out: &mut [u8], at: usize, n: u32, epoch: u64) -> usize
     requires { at + (154 + length (short n) + length (short epoch)) ≤ length out.old }
     ensures { Put out.old at (tail_of n epoch) out.new result }
@@ -130,92 +128,65 @@ pub fn number_at(bytes: &[u8], at: usize, n: usize) -> u64
     ensures { NumberAt bytes.now at n result }
 {
     let mut v: u64 = 0;
-    let mut i: usize = 0;
-    while i < n {
-        v = v * 256 + bytes[at + i] as u64;
-        i += 1;
+    for b in &bytes[at..at + n] {
+        v = v * 256 + *b as u64;
     }
     v
 }
 
-// How many steps back from `at` the byte b stands, or f where it is not among the next f.
-fn steps_back(bytes: &[u8], at: usize, b: u8, f: usize) -> usize
+// How many steps back from `at` the byte b stands, where it is among the next f.
+fn steps_back(bytes: &[u8], at: usize, b: u8, f: usize) -> Option<usize>
     requires { (at < length bytes.now) × (f ≤ at) }
-    ensures { (result ≡ steps_back bytes.now at b f) × (result ≤ f) }
+    ensures { MatchOption result (steps_back bytes.now at b f ≡ f) (λ i. (steps_back bytes.now at b f ≡ i) × (i < f)) }
 {
-    let mut i: usize = 0;
-    while i < f {
+    for i in 0..f {
         if bytes[at - i] == b {
-            return i;
+            return Some(i);
         }
-        i += 1;
     }
-    i
+    None
 }
 
 // The node count by a few byte tests from the end on, right for every image; not every byte is compared.
-pub fn count(bytes: &[u8]) -> Counted
-    ensures { result ≡ count_on bytes.now }
+#[tactic(auto, unfolding(crate::specs::Frames::count_on, crate::specs::Frames::epoch_bytes, crate::specs::Frames::nodes_bytes))]
+pub fn count(bytes: &[u8]) -> Option<Nodes>
+    ensures value { result ≡ count_on bytes.now }
+    ensures counts { IfSome result (λ x. Counts bytes.now x) }
 {
     let size = bytes.len();
     if size < SHORTEST {
-        return Counted::Bad;
+        return None;
     }
-    let e = steps_back(bytes, size - 14, 0x4B, 9);
-    if e == 9 {
-        return Counted::Bad;
-    }
-    let back = steps_back(bytes, size - e - 140, 0x4A, 3);
-    let a = 1 + back;
-    if a == 4 {
-        return Counted::Bad;
-    }
-    let number = number_at(bytes, size - e - 127 - a, a);
-    let nodes = number as u32;
-    Counted::Nodes(nodes, a, e)
-}
-
-// The bytes of a and those of b are the same.
-fn same(a: &[u8], b: &[u8]) -> bool
-    ensures { result ≡ same_bytes a.now b.now }
-{
-    if a.len() != b.len() {
-        return false;
-    }
-    let mut i: usize = 0;
-    while i < a.len() {
-        if a[i] != b[i] {
-            return false;
-        }
-        i += 1;
-    }
-    true
-}
-
-// What `frame` answers where the count was found.
-fn frame_of(bytes: &[u8], n: u32, a: usize, e: usize) -> Framed
-    requires { Counts bytes.now n a e }
-    ensures { result ≡ frame_of bytes.now (Counted.Nodes n a e) }
-{
-    let size = bytes.len();
-    let start = size - (154 + a + e);
-    let epoch = number_at(bytes, size - e, e);
-    let mut wanted = [0u8; LONGEST_TAIL];
-    let end = put_tail(&mut wanted, 0, n, epoch);
-    if same(&bytes[start..], &wanted[..end]) {
-        Framed::Frame(n, start, epoch)
-    } else {
-        Framed::Bad
-    }
+    let epoch_width = steps_back(bytes, size - 14, 0x4B, 9)?;
+    let back = steps_back(bytes, size - epoch_width - 140, 0x4A, 3)?;
+    let width = 1 + back;
+    let number = number_at(bytes, size - epoch_width - 127 - width, width);
+    Some(Nodes {
+        count: number as u32,
+        width,
+        epoch_width,
+    })
 }
 
 // The node count, the start of the marker and the epoch, where the bytes end as an image does: every
 // byte of the marker and the metadata is compared with what the writer writes.
-pub fn frame(bytes: &[u8]) -> Framed
+pub fn frame(bytes: &[u8]) -> Option<Tail>
     ensures { result ≡ frame_on bytes.now }
 {
-    match count(bytes) {
-        Counted::Bad => Framed::Bad,
-        Counted::Nodes(n, a, e) => frame_of(bytes, n, a, e),
+    let x = count(bytes)?;
+    let size = bytes.len();
+    let start = size - (154 + x.width + x.epoch_width);
+    let epoch = number_at(bytes, size - x.epoch_width, x.epoch_width);
+    let mut wanted = [0u8; LONGEST_TAIL];
+    let end = put_tail(&mut wanted, 0, x.count, epoch);
+    let tail = &bytes[start..];
+    let written = &wanted[..end];
+    if tail == written {
+        return Some(Tail {
+            nodes: x.count,
+            start,
+            epoch,
+        });
     }
+    None
 }

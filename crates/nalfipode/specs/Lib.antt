@@ -1,5 +1,4 @@
 pub mod Keys
-pub mod Values
 pub mod Cells
 pub mod Changes
 pub mod Reads

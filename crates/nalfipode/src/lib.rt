@@ -16,30 +16,6 @@ pub mod images; // an image written, checked, described, and looked up in
 pub mod reads; // fetch and longest match
 pub mod slices; // a listing's slice
 
-// An answer's number, and then its values, by how many there are.
-#[derive(Clone, Copy)]
-pub struct One(pub u32, pub u32);
-
-// A length may need 64 bits.
-#[derive(Clone, Copy)]
-pub struct Long(pub u32, pub u64);
-
-#[derive(Clone, Copy)]
-pub struct Two(pub u32, pub u32, pub u32);
-
-// What an image says of itself: two counts, and an epoch of 64 bits.
-#[derive(Clone, Copy)]
-pub struct Facts(pub u32, pub u64, pub u64, pub u64);
-
-#[derive(Clone, Copy)]
-pub struct Three(pub u32, pub u32, pub u32, pub u32);
-
-#[derive(Clone, Copy)]
-pub struct Four(pub u32, pub u32, pub u32, pub u32, pub u32);
-
-#[derive(Clone, Copy)]
-pub struct Five(pub u32, pub u32, pub u32, pub u32, pub u32, pub u32);
-
 // The prefix of a width and four words, as they are given.
 pub fn keyed(width: u32, key: &[u32; 4]) -> Prefix
     ensures { result ≡ key_of width key.now }

@@ -1,82 +1,58 @@
-// What a store and a remove are made of: what a link leads to, a link hung from a node, and records by
-// value.
-ghost use Rattle.std.specs.Prelude.{◌≤◌, ◌≡◌, length};
+// What a store and a remove are made of: what a link leads to, and records by value.
+ghost use Rattle.std.specs.Prelude.{◌≡◌};
 ghost use Rattle.records.specs.Layout.{side_of, with_side};
-ghost use Rattle.plans.specs.Planning.{look_on, spare_on, node_of, freed_of};
-ghost use Rattle.plans.specs.Making.{Hangs};
+ghost use Rattle.plans.specs.Planning.{look_on, node_on, spare_on, node_of, freed_of};
 
-use crate::{Look, Spare};
+use crate::{Spare, Unmade};
 use prefix::Prefix;
-use records::{Header, Record};
+use records::Record;
 
 // ---- reading
 
-// What the link l leads to.
-pub(crate) fn look_at(table: &[u32], l: u32) -> Look
+// The record that the link l must lead to.
+#[tactic(auto, using(records::proofs::LayoutLaws::inside_tested), unfolding(crate::specs::Planning::node_on))]
+pub(crate) fn node_at(table: &[u32], l: u32) -> Result<Record, Unmade>
+    ensures { result ≡ node_on table.now l }
+{
+    if !records::has_room(table.len(), l) {
+        return Err(Unmade::Damaged);
+    }
+    Ok(records::read_record(table, l))
+}
+
+// The record that the link l leads to, or none where that is 0.
+#[tactic(auto, unfolding(crate::specs::Planning::look_on))]
+pub(crate) fn look_at(table: &[u32], l: u32) -> Result<Option<Record>, Unmade>
     ensures { result ≡ look_on table.now l }
 {
-    if l == 0 {
-        return Look::Nothing;
+    match l {
+        0 => Ok(None),
+        _ => Ok(Some(node_at(table, l)?)),
     }
-    if !records::has_room(table.len(), l) {
-        return Look::Bad;
-    }
-    Look::At(records::read_record(table, l))
 }
 
-// The same, where it must be a spare record.
-pub(crate) fn spare_at(table: &[u32], l: u32) -> Spare
+// The spare record at the link l: none is left where that is 0.
+#[tactic(auto, unfolding(crate::specs::Planning::spare_on))]
+pub(crate) fn spare_at(table: &[u32], l: u32) -> Result<Spare, Unmade>
     ensures { result ≡ spare_on table.now l }
 {
-    let x = look_at(table, l);
-    match x {
-        Look::Nothing => Spare::Out,
-        Look::Bad => Spare::Bad,
-        Look::At(r) => {
-            if r.tag == records::SPARE {
-                return Spare::Free(l, r.left);
-            }
-            Spare::Bad
-        }
+    if l == 0 {
+        return Err(Unmade::Full);
     }
-}
-
-// ---- hanging a link
-
-// Hangs the link l from the node `at`, on the side that k goes on by, or at the top where that is 0; and
-// makes `spare` the first spare record. False, with nothing written, where no table has such a node.
-pub(crate) fn hang(table: &mut [u32], k: Prefix, at: u32, l: u32, spare: u32) -> bool
-    requires { (16 ≤ length table.old) × (k.width ≤ 128) }
-    ensures { Hangs table.old k at l spare result table.new }
-{
-    let h = records::read_header(table);
-    let x = look_at(table, at);
-    match x {
-        Look::Nothing => {
-            records::write_header(table, Header { root: l, spare });
-            true
-        }
-        Look::Bad => false,
-        Look::At(r) => {
-            let w = r.tag / 2;
-            if k.width <= w {
-                return false;
-            }
-            records::write_header(
-                table,
-                Header {
-                    root: h.root,
-                    spare,
-                },
-            );
-            records::write_side(table, at, prefix::bit(k, w), l);
-            true
-        }
+    let r = node_at(table, l)?;
+    if r.tag != records::SPARE {
+        return Err(Unmade::Damaged);
     }
+    Ok(Spare {
+        link: l,
+        next: r.left,
+    })
 }
 
 // ---- records by value
 
+// A record with the words of k.
+#[tactic(auto, unfolding(crate::specs::Planning::node_of))]
 pub(crate) fn node_of(k: Prefix, tag: u32, zone: u32, left: u32, right: u32) -> Record
     ensures { result ≡ node_of k tag zone left right }
 {
@@ -93,6 +69,7 @@ pub(crate) fn node_of(k: Prefix, tag: u32, zone: u32, left: u32, right: u32) -> 
 }
 
 // A spare record, with the next one's link.
+#[tactic(auto, unfolding(crate::specs::Planning::freed_of))]
 pub fn freed(next: u32) -> Record
     ensures { result ≡ freed_of next }
 {
@@ -112,13 +89,11 @@ pub fn freed(next: u32) -> Record
 pub(crate) fn with_side(r: Record, right: bool, l: u32) -> Record
     ensures { result ≡ with_side r right l }
 {
-    let mut x = r;
     if right {
-        x.right = l;
-        return x;
+        Record { right: l, ..r }
+    } else {
+        Record { left: l, ..r }
     }
-    x.left = l;
-    x
 }
 
 // The link of one side.

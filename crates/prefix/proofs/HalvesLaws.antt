@@ -21,7 +21,7 @@ use Rattle.bits.proofs.NumbersLaws.{length-bits_of, bits_of-add, drop-bits_of, c
 use Rattle.bits.proofs.ValueLaws.{bits_of-mod}
 use Rattle.bits.proofs.PartingLaws.{parting-after, parting_at, parting-before}
 use Rattle.prefix.specs.Keys.{word_bits}
-use Rattle.prefix.specs.Calls.{High, Low, Parting}
+use Rattle.prefix.specs.Calls.{High, Low, Halves, Parting}
 use Rattle.prefix.specs.declared.Prefix.{Prefix}
 use Rattle.prefix.proofs.WordsLaws.{length-word_bits}
 
@@ -32,7 +32,7 @@ bits_of_pair x y r h e =
     bits_of-add 32 32 r ∙ rw (← bits_of-mod 32 r, q, m)
 
 -- a half as its two words
-bits_of_words : (r : ℕ) → bits_of 64 r ≡ bits_of 32 (r / 4294967296) ++ bits_of 32 (r % 4294967296)
+pub bits_of_words : (r : ℕ) → bits_of 64 r ≡ bits_of 32 (r / 4294967296) ++ bits_of 32 (r % 4294967296)
 bits_of_words r = bits_of-add 32 32 r ∙ rw (← bits_of-mod 32 r)
 
 pub high_pair : (p : Prefix) (r : ℕ) → bits_of 64 r ≡ bits_of 32 p.w0 ++ bits_of 32 p.w1 → High p r
@@ -96,15 +96,12 @@ module _ (p : Prefix) (i : ℕ) where
 
 -- ---- the words of two halves with the bits after n blanked
 
-pub word_bits-blank : (a r : Prefix) (x y u v n : ℕ) → High a x → Low a y → bits_of 64 u ≡ blank n (bits_of 64 x)
-    → bits_of 64 v ≡ blank (n - 64) (bits_of 64 y) → r.w0 ≡ u / 4294967296 → r.w1 ≡ u % 4294967296 → r.w2 ≡ v / 4294967296
-    → r.w3 ≡ v % 4294967296 → word_bits r ≡ blank n (word_bits a)
-unfolding word_bits
-word_bits-blank a r x y u v n hx hy eu ev e0 e1 e2 e3 =
+pub word_bits-blank : (a r : Prefix) (x y u v n : ℕ) → High a x → Low a y → Halves n u v r → bits_of 64 u ≡ blank n (bits_of 64 x)
+    → bits_of 64 v ≡ blank (n - 64) (bits_of 64 y) → word_bits r ≡ blank n (word_bits a)
+word_bits-blank a r x y u v n hx hy s eu ev =
     let l : length (take 64 (word_bits a)) ≡ 64 = length-take-le 64 (word_bits a) (omega (arith, length-word_bits a)) in
     let words : word_bits r ≡ bits_of 64 u ++ bits_of 64 v =
-    rw (e0, e1, e2, e3, bits_of_words u, bits_of_words v)
-    (sym (append_assoc (bits_of 32 (u / 4294967296)) (bits_of 32 (u % 4294967296)) _)) in
+    rw (s.high, s.low) (sym (take-append-drop 64 (word_bits r))) in
     let halves : blank n (word_bits a) ≡ blank n (take 64 (word_bits a)) ++ blank (n - 64) (drop 64 (word_bits a)) =
     ap (blank n) (sym (take-append-drop 64 (word_bits a))) ∙ blank-append n (take 64 (word_bits a)) (drop 64 (word_bits a)) ∙ rw l in
     words ∙ rw (eu, ev, hx, hy) (sym halves)

@@ -1,28 +1,28 @@
 -- The laws of a prefix as the bit string that it is, and those that make the contracts.
 -- No contract cites this file.
 -- Assumes nothing.
-use Prim.Native.Nat.{ℕ, ◌-◌, ◌/◌, ◌%◌, ◌^◌, ◌≤◌, ◌<◌, min}
+use Prim.Native.Nat.{ℕ, ◌-◌, ◌^◌, ◌≤◌, ◌<◌, min}
 use native.Mathlib.Decide.{dec_le}
 use native.Mathlib.Omega.{arith}
 use mathlib.Core.Path.{◌≡◌, refl, sym, ap, ap₂, ◌∙◌}
 use mathlib.Core.Bool.{Bool, true, false, ◌&&◌}
 use mathlib.Core.List.{[]}
 use lib.Dec.{eqb, leb}
-use lib.ListN.{length, get_or, take, drop, length-take, length-drop, drop_of_length-le}
+use lib.ListN.{length, length-drop, get_or, take, drop, length-take, drop_of_length-le}
 use lib.Seq.{take-take, get_or-take}
 use borrow.Author.Tests.{le-leb, lt-leb, leb-true, eq-eqb, ne_eqb}
+use Rattle.std.specs.Ordering.{nat_cmp, ordering_then}
 use Rattle.bits.specs.Bits.{lcp, order, is_prefix}
 use Rattle.bits.specs.Meet.{meet}
 use Rattle.bits.specs.Numbers.{bits_of, value, clear, blank}
-use Rattle.bits.specs.Orders.{number_order, or_else}
 use Rattle.bits.specs.declared.Meeting.TheVariants.{Equal, Below, Above, Apart}
 use Rattle.bits.proofs.BitsLaws.{length-lcp-take, is_prefix-lcp}
 use Rattle.bits.proofs.MeetLaws.{meet_apart, meet_above, meet_below, meet-equal}
-use Rattle.bits.proofs.BlankLaws.{length-blank, blank-all, take-blank, clear-drop-blank, blank-clear, blank_ext, or_else_assoc, order-take}
+use Rattle.bits.proofs.BlankLaws.{length-blank, blank-all, take-blank, clear-drop-blank, blank-clear, blank_ext, ordering_then_assoc, order-take}
 use Rattle.bits.proofs.NumbersLaws.{length-bits_of, bits_of_zero}
 use Rattle.bits.proofs.ValueLaws.{value-lt, bits_of-value}
 use Rattle.prefix.specs.Keys.{word_bits, string_of, is_valid, Valid, cut_of}
-use Rattle.prefix.specs.Calls.{Validity, Shared, Cut, High, Low}
+use Rattle.prefix.specs.Calls.{Validity, Shared, Cut, High, Low, Halves}
 use Rattle.prefix.specs.declared.Prefix.{Prefix}
 use Rattle.prefix.proofs.WordsLaws.{Small, length-word_bits, order-word_bits, word_bits_inj, blank-word_bits}
 use Rattle.prefix.proofs.HalvesLaws.{clear_zero, clear_first, clear_second, word_bits-blank}
@@ -43,7 +43,7 @@ is_prefix-string_of k p r h e = ap₂ eqb e (sym (length-string_of p h)) ∙ is_
 
 -- valid prefixes go by all of their bits, and then by their widths
 order-string_of_at : (a b : Prefix) → Valid a → Valid b
-    → order (string_of a) (string_of b) ≡ or_else (order (word_bits a) (word_bits b)) (number_order a.width b.width)
+    → order (string_of a) (string_of b) ≡ ordering_then (order (word_bits a) (word_bits b)) (nat_cmp a.width b.width)
 unfolding string_of
 order-string_of_at a b va vb =
     order-take a.width b.width (word_bits a) (word_bits b) (length-word_bits a ∙ sym (length-word_bits b))
@@ -51,9 +51,9 @@ order-string_of_at a b va vb =
 
 pub order-string_of : (a b : Prefix) → Small a → Small b → Valid a → Valid b
     → order (string_of a) (string_of b)
-    ≡ or_else (or_else (or_else (or_else (number_order a.w0 b.w0) (number_order a.w1 b.w1)) (number_order a.w2 b.w2))
-    (number_order a.w3 b.w3)) (number_order a.width b.width)
-order-string_of a b sa sb va vb = order-string_of_at a b va vb ∙ rw (order-word_bits a b sa sb) (simp or_else_assoc)
+    ≡ ordering_then (nat_cmp a.w0 b.w0) (ordering_then (nat_cmp a.w1 b.w1) (ordering_then (nat_cmp a.w2 b.w2)
+    (ordering_then (nat_cmp a.w3 b.w3) (nat_cmp a.width b.width))))
+order-string_of a b sa sb va vb = order-string_of_at a b va vb ∙ rw (order-word_bits a b sa sb) (simp ordering_then_assoc)
 
 -- valid prefixes with one string are one prefix
 pub string_of_inj : (a b : Prefix) → Small a → Small b → Valid a → Valid b → string_of a ≡ string_of b → a ≡ b
@@ -141,15 +141,15 @@ shared-promise a b r e =
     }
 
 -- a prefix whose words are those of a with the bits after its width blanked
-cut-blank : (a r : Prefix) → r ≡ cut_of a r.width → r.width ≤ a.width → a.width ≤ 128 → word_bits r ≡ blank r.width (word_bits a)
-    → Cut a r.width r
+cut-blank : (a r : Prefix) (n : ℕ) → r ≡ cut_of a n → r.width ≡ n → n ≤ a.width → a.width ≤ 128 → word_bits r ≡ blank n (word_bits a)
+    → Cut a n r
 unfolding string_of
-cut-blank a r is h g e =
+cut-blank a r n is w h g e =
     record {
       answer = is;
-      width = refl;
-      string = rw e (take-blank r.width (word_bits a) ∙ sym (take-take r.width a.width (word_bits a) h));
-      valid = record { narrow = omega arith; clean = rw e (clear-drop-blank r.width (word_bits a)) };
+      width = w;
+      string = rw (e, w) (take-blank n (word_bits a) ∙ sym (take-take n a.width (word_bits a) h));
+      valid = record { narrow = omega arith; clean = rw (e, w) (clear-drop-blank n (word_bits a)) };
     }
 
 -- ---- cut_of
@@ -165,7 +165,7 @@ word_bits-cut_of a n =
 module _ (a : Prefix) (n : ℕ) (h : n ≤ a.width) (g : a.width ≤ 128) where
   cut-cut_of : Cut a n (cut_of a n)
   unfolding cut_of
-  cut-cut_of = cut-blank a (cut_of a n) refl h g (word_bits-cut_of a n)
+  cut-cut_of = cut-blank a (cut_of a n) n refl refl h g (word_bits-cut_of a n)
 
   pub valid-cut_of : Valid (cut_of a n)
   valid-cut_of = cut-cut_of.valid
@@ -182,28 +182,23 @@ small-cut_of a n = (blank-lt n a.w0, blank-lt (n - 32) a.w1, blank-lt (n - 64) a
     blank-lt : (m x : ℕ) → value (blank m (bits_of 32 x)) < 2 ^ 32
     blank-lt m x = rw (length-blank, length-bits_of) at (value-lt (blank m (bits_of 32 x)))
 
-cut-promise : (a : Prefix) (n m x y u v r0 r1 r2 r3 : ℕ) → a.width ≤ 128 → n ≤ a.width → High a x → Low a y → m ≡ n - 64 → u < 2 ^ 64
-    → v < 2 ^ 64 → bits_of 64 u ≡ blank n (bits_of 64 x) → bits_of 64 v ≡ blank m (bits_of 64 y) → r0 ≡ u / 4294967296 → r1 ≡ u % 4294967296
-    → r2 ≡ v / 4294967296 → r3 ≡ v % 4294967296 → Cut a n (record { width = n; w0 = r0; w1 = r1; w2 = r2; w3 = r3 })
+cut-promise : (a r : Prefix) (n x y u v : ℕ) → a.width ≤ 128 → n ≤ a.width → High a x → Low a y → Small r → Halves n u v r
+    → bits_of 64 u ≡ blank n (bits_of 64 x) → bits_of 64 v ≡ blank (n - 64) (bits_of 64 y) → Cut a n r
 unfolding cut_of
-cut-promise a n m x y u v r0 r1 r2 r3 g h hx hy em bu bv eu ev e0 e1 e2 e3 =
-    let r : Prefix = record { width = n; w0 = r0; w1 = r1; w2 = r2; w3 = r3 } in
-    let e : word_bits r ≡ blank n (word_bits a) = word_bits-blank a r x y u v n hx hy eu (rw em at ev) e0 e1 e2 e3 in
-    let small : Small r = (omega arith, omega arith, omega arith, omega arith) in
+cut-promise a r n x y u v g h hx hy small s eu ev =
+    let e : word_bits r ≡ blank n (word_bits a) = word_bits-blank a r x y u v n hx hy s eu ev in
     let i = word_bits_inj r (cut_of a n) small (small-cut_of a n) (e ∙ sym (word_bits-cut_of a n)) in
-    cut-blank a r (λ j. record { width = n; w0 = i.0 j; w1 = i.1 j; w2 = i.2 j; w3 = i.3 j }) h g e
+    cut-blank a r n (λ j. record { w0 = i.0 j; w1 = i.1 j; w2 = i.2 j; w3 = i.3 j; width = s.width j }) s.width h g e
 
 -- one law for each way out: the second half goes whole, or the first stays whole
-module _ (a : Prefix) (n : ℕ) (g : a.width ≤ 128) (h : n ≤ a.width) (x : ℕ) (hx : High a x) where
-  pub cut_short : (u r0 r1 : ℕ) → n < 64 → u < 2 ^ 64 → bits_of 64 u ≡ blank n (bits_of 64 x) → r0 ≡ u / 4294967296 → r1 ≡ u % 4294967296
-      → Cut a n (record { width = n; w0 = r0; w1 = r1; w2 = 0; w3 = 0 })
-  cut_short u r0 r1 f b e e0 e1 =
+module _ (a r : Prefix) (n x : ℕ) (g : a.width ≤ 128) (h : n ≤ a.width) (hx : High a x) (small : Small r) where
+  pub cut_short : (u : ℕ) → n < 64 → Halves n u 0 r → bits_of 64 u ≡ blank n (bits_of 64 x) → Cut a n r
+  cut_short u f s e =
       let half : ℕ = value (drop 64 (word_bits a)) in
       let low : Low a half = rw (length-drop, length-word_bits) at (bits_of-value (drop 64 (word_bits a))) in
-      cut-promise a n 0 x half u 0 r0 r1 0 0 g h hx low (omega arith) b (omega arith) e (bits_of_zero 64 half) e0 e1 refl refl
+      let z : n - 64 ≡ 0 = omega arith in
+      cut-promise a r n x half u 0 g h hx low small s e (rw z (bits_of_zero 64 half))
 
-  pub cut-long : (y v r0 r1 r2 r3 : ℕ) → 64 ≤ n → x < 2 ^ 64 → v < 2 ^ 64 → Low a y → bits_of 64 v ≡ blank (n - 64) (bits_of 64 y)
-      → r0 ≡ x / 4294967296 → r1 ≡ x % 4294967296 → r2 ≡ v / 4294967296 → r3 ≡ v % 4294967296
-      → Cut a n (record { width = n; w0 = r0; w1 = r1; w2 = r2; w3 = r3 })
-  cut-long y v r0 r1 r2 r3 f bx bv hy e =
-      cut-promise a n (n - 64) x y x v r0 r1 r2 r3 g h hx hy refl bx bv (sym (blank-all n (bits_of 64 x) (omega (arith, length-bits_of 64 x)))) e
+  pub cut-long : (y v : ℕ) → 64 ≤ n → Low a y → Halves n x v r → bits_of 64 v ≡ blank (n - 64) (bits_of 64 y) → Cut a n r
+  cut-long y v f hy s e =
+      cut-promise a r n x y x v g h hx hy small s (sym (blank-all n (bits_of 64 x) (omega (arith, length-bits_of 64 x)))) e

@@ -7,9 +7,9 @@ use mathlib.Core.Path.{◌≡◌, refl, sym, ap₂, ◌∙◌}
 use mathlib.Core.Bool.{Bool}
 use mathlib.Core.List.{[], ◌∷◌, ◌++◌}
 use lib.ListN.{length, length-append}
+use Rattle.std.specs.Ordering.{nat_cmp, ordering_then}
 use Rattle.bits.specs.Bits.{Bits, order}
 use Rattle.bits.specs.Numbers.{bits_of, blank}
-use Rattle.bits.specs.Orders.{number_order, or_else}
 use Rattle.bits.proofs.BlankLaws.{blank-append, order-append}
 use Rattle.bits.proofs.NumbersLaws.{length-bits_of, bits_of_inj, order-bits_of}
 use Rattle.prefix.specs.Keys.{word_bits}
@@ -47,12 +47,12 @@ blank-word_bits p n = rw (blank_step n, blank_step (n - 32), sub_two, blank_step
 
 -- ---- order
 
-order_step : (x y : ℕ) (r s : Bits) → x < 2 ^ 32 → y < 2 ^ 32 → order (bits_of 32 x ++ r) (bits_of 32 y ++ s) ≡ or_else (number_order x y) (order r s)
+order_step : (x y : ℕ) (r s : Bits) → x < 2 ^ 32 → y < 2 ^ 32 → order (bits_of 32 x ++ r) (bits_of 32 y ++ s) ≡ ordering_then (nat_cmp x y) (order r s)
 order_step x y r s hx hy = order-append (bits_of 32 x) (bits_of 32 y) r s (one_length x y) ∙ rw (order-bits_of 32 x y hx hy)
 
 pub order-word_bits : (a b : Prefix) → Small a → Small b
     → order (word_bits a) (word_bits b)
-    ≡ or_else (number_order a.w0 b.w0) (or_else (number_order a.w1 b.w1) (or_else (number_order a.w2 b.w2) (number_order a.w3 b.w3)))
+    ≡ ordering_then (nat_cmp a.w0 b.w0) (ordering_then (nat_cmp a.w1 b.w1) (ordering_then (nat_cmp a.w2 b.w2) (nat_cmp a.w3 b.w3)))
 unfolding word_bits
 order-word_bits a b sa sb =
     rw (order_step _ _ _ _ sa.0 sb.0, order_step _ _ _ _ sa.1 sb.1, order_step _ _ _ _ sa.2 sb.2, order-bits_of 32 _ _ sa.3 sb.3)

@@ -3,6 +3,7 @@
 -- Paper 01, "Keys and their order".
 --   Validity, Shared, Cut   the contracts of `valid`, `shared` and `cut`
 --   High p x, Low p x   the number x is the first 64 bits of p, the last 64
+--   Halves n x y r   the contract of `of_halves`
 --   Parting x y i r   the contract of `parting`
 -- Assumes nothing.
 use Rattle.std.specs.Prelude.{ℕ, ◌≤◌, ◌<◌, ◌≡◌, Bool, true, length, take, drop}
@@ -34,6 +35,12 @@ High p x = bits_of 64 x ≡ take 64 (word_bits p)
 
 abbrev pub Low : Prefix → ℕ → Type 0
 Low p x = bits_of 64 x ≡ drop 64 (word_bits p)
+
+-- r is the prefix of the width n that has x for its first 64 bits and y for its last
+pub record Halves (n x y : ℕ) (r : Prefix) : Type 0 where
+  pub width : r.width ≡ n
+  pub high : High r x
+  pub low : Low r y
 
 -- r says whether x and y, of 64 bits, part after the bit i, at it or before it
 pub record Parting (x y i r : ℕ) : Type 0 where

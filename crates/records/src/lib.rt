@@ -15,7 +15,7 @@ use prefix::Prefix;
 // One node record. A link is 0 for none, else the number of a record, the first being 1. The tag is
 // twice the width, plus 1 if a zone is stored here; a spare record has SPARE there, and the next
 // spare record in `left`.
-#[derive(Clone, Copy)]
+#[derive(Clone, Copy, Debug, PartialEq, Eq)]
 pub struct Record {
     pub w0: u32,
     pub w1: u32,
@@ -28,7 +28,7 @@ pub struct Record {
 }
 
 // The links by which a table is entered: the top of the tree, and the first spare record.
-#[derive(Clone, Copy)]
+#[derive(Clone, Copy, Debug, PartialEq, Eq)]
 pub struct Header {
     pub root: u32,
     pub spare: u32,
@@ -70,6 +70,7 @@ pub fn read_header(table: &[u32]) -> Header
 }
 
 // The record of a link: the one place where a whole node record is read.
+// That the link leads inside the words stays a clause, here and below: it ties two parameters, of which one is lent.
 pub fn read_record(table: &[u32], l: u32) -> Record
     requires { Inside table.now l }
     ensures { result ≡ record_at table.now l }
@@ -138,6 +139,7 @@ pub fn key_of(r: Record) -> Prefix
 }
 
 // ---- one field of a record, by the word that the record starts at: a walk reads no more than it needs
+// Stays: one function for each field; a generic one over the field's place would name it by a number.
 
 pub fn tag_at(table: &[u32], at: usize) -> u32
     requires { at + 8 ≤ length table.now }

@@ -1,13 +1,29 @@
 -- The laws of how refusals are given. No contract cites this file.
 -- Assumes nothing.
-use Prim.Native.Nat.{ℕ, zero, suc}
+use Prim.Native.Nat.{ℕ, zero, suc, ◌<◌}
 use native.Mathlib.Omega.{arith}
 use mathlib.Core.Path.{◌≡◌, refl, sym, subst}
 use mathlib.Core.Bool.{Bool, true, false, ◌||◌}
 use mathlib.Core.List.{List, [], ◌∷◌}
 use lib.Dec.{T, eqb}
 use borrow.Author.Tests.{eqb-true}
-use Rattle.refusals.specs.Refusals.{OneOf, GivenExactly}
+use Rattle.refusals.specs.Refusals.{number, OneOf, GivenExactly}
+use Rattle.refusals.specs.declared.Refusal.{Refusal}
+use Rattle.refusals.specs.declared.Refusal.TheVariants.{BadLength, BadPrefix, BadPosition, BadSize, ShortOut, Damaged, Absent, Full, BadImage}
+
+-- ---- number
+
+-- no refusal has the number of an accepted call
+pub number_pos : (e : Refusal) → 0 < number e
+number_pos BadLength = omega arith
+number_pos BadPrefix = omega arith
+number_pos BadPosition = omega arith
+number_pos BadSize = omega arith
+number_pos (ShortOut n) = omega arith
+number_pos Damaged = omega arith
+number_pos (Absent n) = omega arith
+number_pos (Full n) = omega arith
+number_pos BadImage = omega arith
 
 -- ---- GivenExactly
 

@@ -1,16 +1,24 @@
-// One call, and a line: each prints its text, makes the call, and prints what it answers.
-use crate::printing::{number, say, trail};
-use edits::{Freshened, Removal, Stored};
-use lookup::{Fetched, Matched};
+// One call, and a line: each makes the call, and prints its text and what it answers.
+ghost use Rattle.std.specs.Prelude.{◌≤◌};
+
+use crate::printing::{refused, trail};
+use lookup::TRAIL;
 use prefix::Prefix;
 use std::io;
 
 pub(crate) fn made(rt: &impl Print, text: &str, table: &mut [u32]) -> io::Result<()> {
-    say(rt, text)?;
     match edits::fresh(table) {
-        Freshened::Done => say(rt, ": fresh\n"),
-        Freshened::BadLength => say(rt, ": BadLength\n"),
+        Ok(()) => println!(rt; "{text}: fresh"),
+        Err(e) => println!(rt; "{text}: {e}"),
     }
+}
+
+// A table of N words.
+pub(crate) fn sized<const N: usize>(rt: &impl Print) -> io::Result<()>
+    requires { N ≤ 1000000 }
+{
+    print!(rt; "{N} ")?;
+    made(rt, "words", &mut [0; N])
 }
 
 pub(crate) fn store(
@@ -20,80 +28,56 @@ pub(crate) fn store(
     k: Prefix,
     zone: u32,
 ) -> io::Result<()> {
-    let mut bytes = [0u8; 129];
-    say(rt, "store ")?;
-    say(rt, text)?;
+    let mut bytes = [0; TRAIL];
+    print!(rt; "store {text}: ")?;
     match edits::store(table, k, zone, &mut bytes) {
-        Stored::Added(n) => {
-            say(rt, ": added")?;
-            trail(rt, n, &bytes)
+        Ok(x) => {
+            match x.value {
+                None => print!(rt; "added")?,
+                Some(z) => print!(rt; "replaced {z}")?,
+            }
+            trail(rt, x.nodes, &bytes)
         }
-        Stored::Replaced(n, z) => {
-            say(rt, ": replaced ")?;
-            number(rt, z)?;
-            trail(rt, n, &bytes)
-        }
-        Stored::Full(n) => {
-            say(rt, ": Full")?;
-            trail(rt, n, &bytes)
-        }
-        _ => say(rt, ": refused\n"),
+        Err(e) => refused(rt, e, &bytes),
     }
 }
 
 pub(crate) fn remove(rt: &impl Print, text: &str, table: &mut [u32], k: Prefix) -> io::Result<()> {
-    let mut bytes = [0u8; 129];
-    say(rt, "remove ")?;
-    say(rt, text)?;
+    let mut bytes = [0; TRAIL];
+    print!(rt; "remove {text}: ")?;
     match edits::remove(table, k, &mut bytes) {
-        Removal::Removed(n, z) => {
-            say(rt, ": removed ")?;
-            number(rt, z)?;
-            trail(rt, n, &bytes)
+        Ok(x) => {
+            print!(rt; "removed {}", x.value)?;
+            trail(rt, x.nodes, &bytes)
         }
-        Removal::Absent(n) => {
-            say(rt, ": Absent")?;
-            trail(rt, n, &bytes)
-        }
-        _ => say(rt, ": refused\n"),
+        Err(e) => refused(rt, e, &bytes),
     }
 }
 
 pub(crate) fn fetch(rt: &impl Print, text: &str, table: &[u32], k: Prefix) -> io::Result<()> {
-    let mut bytes = [0u8; 129];
-    say(rt, "fetch ")?;
-    say(rt, text)?;
+    let mut bytes = [0; TRAIL];
+    print!(rt; "fetch {text}: ")?;
     match lookup::fetch(table, k, &mut bytes) {
-        Fetched::Found(n, z) => {
-            say(rt, ": ")?;
-            number(rt, z)?;
-            trail(rt, n, &bytes)
+        Ok(x) => {
+            print!(rt; "{}", x.value)?;
+            trail(rt, x.nodes, &bytes)
         }
-        Fetched::Absent(n) => {
-            say(rt, ": Absent")?;
-            trail(rt, n, &bytes)
-        }
-        _ => say(rt, ": refused\n"),
+        Err(e) => refused(rt, e, &bytes),
     }
 }
 
 pub(crate) fn longest(rt: &impl Print, text: &str, table: &[u32], k: Prefix) -> io::Result<()> {
-    let mut bytes = [0u8; 129];
-    say(rt, "longest match of ")?;
-    say(rt, text)?;
+    let mut bytes = [0; TRAIL];
+    print!(rt; "longest match of {text}: ")?;
     match lookup::longest_match(table, k, &mut bytes) {
-        Matched::Match(n, w, z) => {
-            say(rt, ": ")?;
-            number(rt, z)?;
-            say(rt, " at width ")?;
-            number(rt, w)?;
-            trail(rt, n, &bytes)
+        Ok(x) => {
+            match x.value {
+                None => print!(rt; "no match")?,
+                Some(m) => print!(rt; "{} at width {}", m.zone, m.width)?,
+            }
+            trail(rt, x.nodes, &bytes)
         }
-        Matched::NoMatch(n) => {
-            say(rt, ": no match")?;
-            trail(rt, n, &bytes)
-        }
-        _ => say(rt, ": refused\n"),
+        Err(e) => refused(rt, e, &bytes),
     }
 }
 
@@ -105,13 +89,8 @@ pub(crate) fn answer(
     k: Prefix,
     out: &mut [u8],
 ) -> io::Result<()> {
-    say(rt, text)?;
     match lookup::fetch(table, k, out) {
-        Fetched::Found(_, _) => say(rt, ": Found\n"),
-        Fetched::BadLength => say(rt, ": BadLength\n"),
-        Fetched::BadPrefix => say(rt, ": BadPrefix\n"),
-        Fetched::ShortOut => say(rt, ": ShortOut\n"),
-        Fetched::Damaged => say(rt, ": Damaged\n"),
-        Fetched::Absent(_) => say(rt, ": Absent\n"),
+        Ok(_) => println!(rt; "{text}: Found"),
+        Err(e) => println!(rt; "{text}: {e}"),
     }
 }

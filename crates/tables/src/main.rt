@@ -5,11 +5,9 @@
 #![tactic(auto)]
 
 mod calls; // one call, and a line
-mod printing; // trails, numbers and text
+mod printing; // trails, and refusals
 
-ghost use Rattle.std.specs.Prelude.{◌≡◌, length};
-
-use calls::{answer, fetch, longest, made, remove, store};
+use calls::{answer, fetch, longest, made, remove, sized, store};
 use prefix::Prefix;
 use std::io;
 
@@ -21,48 +19,18 @@ fn main(rt: HostRuntime) -> io::Result<()> {
     m7(&rt)?;
     m8(&rt)?;
     freed_room(&rt)?;
-    refusals(&rt)?;
-    Ok(())
+    refusals(&rt)
 }
 
 // ---- the lengths of a table
 
 fn lengths(rt: &impl Print) -> io::Result<()> {
-    let mut fifteen = [0u32; 15];
-    let mut sixteen = [0u32; 16];
-    let mut twenty = [0u32; 20];
-    let mut two = [0u32; 24];
-    made(rt, "15 words", &mut fifteen)?;
-    made(rt, "16 words", &mut sixteen)?;
-    made(rt, "20 words", &mut twenty)?;
-    made(rt, "24 words", &mut two)?;
-    most(rt)?;
-    beyond(rt)?;
-    Ok(())
-}
-
-fn most(rt: &impl Print) -> io::Result<()> {
-    let mut space = largest();
-    made(rt, "524288 words", &mut space)?;
-    Ok(())
-}
-
-fn beyond(rt: &impl Print) -> io::Result<()> {
-    let mut space = larger();
-    made(rt, "524296 words", &mut space)?;
-    Ok(())
-}
-
-fn largest() -> [u32; 524_288]
-    ensures { 524288 ≡ length result }
-{
-    [0; 524_288]
-}
-
-fn larger() -> [u32; 524_296]
-    ensures { 524296 ≡ length result }
-{
-    [0; 524_296]
+    sized::<15>(rt)?;
+    sized::<16>(rt)?;
+    sized::<20>(rt)?;
+    sized::<24>(rt)?;
+    sized::<524_288>(rt)?;
+    sized::<524_296>(rt)
 }
 
 // ---- set A: 00 -> 10, 01 -> 20, 0110 -> 30
@@ -82,16 +50,14 @@ fn set_a(rt: &impl Print) -> io::Result<()> {
     remove(rt, "00", table, of(2, 0))?;
     remove(rt, "0110", table, of(4, 0x6000_0000))?;
     remove(rt, "01", table, of(2, TOP / 2))?;
-    longest(rt, "0111", table, of(4, 0x7000_0000))?;
-    Ok(())
+    longest(rt, "0111", table, of(4, 0x7000_0000))
 }
 
 fn m2_to_m5(rt: &impl Print, table: &[u32]) -> io::Result<()> {
     longest(rt, "0111", table, of(4, 0x7000_0000))?;
     longest(rt, "0101", table, of(4, 0x5000_0000))?;
     longest(rt, "1", table, of(1, TOP))?;
-    longest(rt, "the empty key", table, of(0, 0))?;
-    Ok(())
+    longest(rt, "the empty key", table, of(0, 0))
 }
 
 // What lies beside M2 to M5.
@@ -100,8 +66,7 @@ fn neighbours(rt: &impl Print, table: &[u32]) -> io::Result<()> {
     longest(rt, "01101", table, of(5, 0x6800_0000))?;
     fetch(rt, "01", table, of(2, TOP / 2))?;
     fetch(rt, "0, a branch node", table, of(1, 0))?;
-    fetch(rt, "011, no node", table, of(3, 0x6000_0000))?;
-    Ok(())
+    fetch(rt, "011, no node", table, of(3, 0x6000_0000))
 }
 
 // ---- M7 and M8
@@ -116,8 +81,7 @@ fn m7(rt: &impl Print) -> io::Result<()> {
     store(rt, "00", table, of(2, 0), 4)?;
     store(rt, "01", table, of(2, TOP / 2), 5)?;
     store(rt, "00", table, of(2, 0), 6)?;
-    fetch(rt, "00", table, of(2, 0))?;
-    Ok(())
+    fetch(rt, "00", table, of(2, 0))
 }
 
 fn m8(rt: &impl Print) -> io::Result<()> {
@@ -131,8 +95,7 @@ fn m8(rt: &impl Print) -> io::Result<()> {
     fetch(rt, "the empty prefix", table, of(0, 0))?;
     store(rt, "11", table, of(2, 0xc000_0000), 4)?;
     remove(rt, "the empty prefix", table, of(0, 0))?;
-    longest(rt, "11", table, of(2, 0xc000_0000))?;
-    Ok(())
+    longest(rt, "11", table, of(2, 0xc000_0000))
 }
 
 // "room freed by a removal serves again"
@@ -146,8 +109,7 @@ fn freed_room(rt: &impl Print) -> io::Result<()> {
     remove(rt, "1", table, of(1, TOP))?;
     store(rt, "00", table, of(2, 0), 3)?;
     store(rt, "000", table, of(3, 0), 4)?;
-    store(rt, "001", table, of(3, TOP / 4), 5)?;
-    Ok(())
+    store(rt, "001", table, of(3, TOP / 4), 5)
 }
 
 // ---- the order of the refusals
@@ -158,8 +120,7 @@ fn refusals(rt: &impl Print) -> io::Result<()> {
     made(rt, "c = 1", &mut table)?;
     refused(rt, &table)?;
     table[0] = 2;
-    answer(rt, "a link past the end", &table, of(0, 0), &mut bytes)?;
-    Ok(())
+    answer(rt, "a link past the end", &table, of(0, 0), &mut bytes)
 }
 
 // Each call is wrong in one way less than the one before it.
@@ -176,13 +137,12 @@ fn refused(rt: &impl Print, table: &[u32]) -> io::Result<()> {
     )?;
     answer(rt, "a bad key, 128 bytes", table, of(0, 1), &mut few)?;
     answer(rt, "128 bytes", table, of(0, 0), &mut few)?;
-    answer(rt, "129 bytes", table, of(0, 0), &mut bytes)?;
-    Ok(())
+    answer(rt, "129 bytes", table, of(0, 0), &mut bytes)
 }
 
 // ---- keys
 
-// A key of at most 32 bits.
+// A key of at most 32 bits. Stays in each of four programs: a crate for one literal would be no plainer.
 fn of(width: u32, w0: u32) -> Prefix {
     Prefix {
         width,

@@ -1,30 +1,22 @@
-// Printing: trails, numbers and text.
+// Printing: trails, and refusals.
+use lookup::TRAIL;
+use refusals::Refusal;
 use std::io;
 
 // ", trail" and the first n bytes.
-pub(crate) fn trail(rt: &impl Print, n: usize, bytes: &[u8; 129]) -> io::Result<()> {
-    say(rt, ", trail")?;
-    let mut i: usize = 0;
-    while i < n {
-        if i < 129 {
-            byte(rt, bytes[i])?;
-        }
-        i += 1;
+pub(crate) fn trail(rt: &impl Print, n: usize, bytes: &[u8; TRAIL]) -> io::Result<()> {
+    print!(rt; ", trail")?;
+    for b in bytes.iter().take(n) {
+        print!(rt; " {b}")?;
     }
-    say(rt, "\n")?;
-    Ok(())
+    println!(rt; "")
 }
 
-// A space and the byte.
-fn byte(rt: &impl Print, b: u8) -> io::Result<()> {
-    say(rt, " ")?;
-    number(rt, b as u32)
-}
-
-pub(crate) fn number(rt: &impl Print, n: u32) -> io::Result<()> {
-    rt.print(n)
-}
-
-pub(crate) fn say(rt: &impl Print, text: &str) -> io::Result<()> {
-    rt.print(text)
+// The refusal's name, and the trail where one is written.
+pub(crate) fn refused(rt: &impl Print, e: Refusal, bytes: &[u8; TRAIL]) -> io::Result<()> {
+    print!(rt; "{e}")?;
+    match e {
+        Refusal::Absent(n) | Refusal::Full(n) => trail(rt, n, bytes),
+        _ => println!(rt; ""),
+    }
 }

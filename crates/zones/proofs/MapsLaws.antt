@@ -8,12 +8,13 @@ use mathlib.Core.List.{List, [], ◌∷◌, Memᴰ}
 use mathlib.Core.Option.{none, some, some-injective, some-ne-none, none-ne-some}
 use lib.Dec.{T, ltb}
 use lib.ListN.{length}
+use Rattle.std.specs.declared.cmp.Ordering.{Ordering}
+use Rattle.std.specs.declared.cmp.Ordering.TheVariants.{Less, Equal, Greater}
+use Rattle.std.specs.Ordering.{is_lt, is_eq, ordering_reverse}
 use Rattle.bits.specs.Lists.{any, all, keep}
-use Rattle.bits.specs.Bits.{Bits, order, is_before, is_same, before, equal, rising, member}
-use Rattle.bits.specs.declared.Order.{Order}
-use Rattle.bits.specs.declared.Order.TheVariants.{Before, Same, After}
+use Rattle.bits.specs.Bits.{Bits, order, before, equal, rising, member}
 use Rattle.bits.proofs.ListsLaws.{and_left, and_right, all_mem, mem-map, map-keep}
-use Rattle.bits.proofs.BitsLaws.{equal_true, order_refl, flip, order_flip}
+use Rattle.bits.proofs.BitsLaws.{equal_true, order_refl, order_flip}
 use Rattle.bits.proofs.RisingLaws.{rising-keep, before-rising, before_not-equal}
 use Rattle.zones.specs.Maps.{Entry, Map, keys, ascending, get, put, put_at, without}
 use Rattle.zones.specs.Nodes.{join, join_at, nodes, overflows}
@@ -21,12 +22,12 @@ use Rattle.zones.proofs.NodesLaws.{rising-join, join-member}
 
 -- ---- keys
 
-keys-put_at : (o : Order) (e f : Entry) (m : Map) → order e.key f.key ≡ o → keys (put e m) ≡ join e.key (keys m)
+keys-put_at : (o : Ordering) (e f : Entry) (m : Map) → order e.key f.key ≡ o → keys (put e m) ≡ join e.key (keys m)
     → keys (put_at o e f m (put e m)) ≡ join_at o e.key f.key (keys m) (join e.key (keys m))
 unfolding keys
-keys-put_at Before e f m c ih = refl
-keys-put_at Same e f m c ih = ap (λ (p : Bits). p ∷ keys m) (equal_true e.key f.key (rw c tt))
-keys-put_at After e f m c ih = ap (λ (l : List Bits). f.key ∷ l) ih
+keys-put_at Less e f m c ih = refl
+keys-put_at Equal e f m c ih = ap (λ (p : Bits). p ∷ keys m) (equal_true e.key f.key (rw c tt))
+keys-put_at Greater e f m c ih = ap (λ (l : List Bits). f.key ∷ l) ih
 
 pub keys-put : (e : Entry) (m : Map) → keys (put e m) ≡ join e.key (keys m)
 unfolding keys
@@ -74,14 +75,14 @@ not_both k a b c i j =
     let w : equal a b ≡ true = rw (e, order_refl) in
     true≢false (sym w ∙ c)
 
-get-put_at : (o : Order) (k : Bits) (e f : Entry) (m : Map) → order e.key f.key ≡ o
+get-put_at : (o : Ordering) (k : Bits) (e f : Entry) (m : Map) → order e.key f.key ≡ o
     → get k (put e m) ≡ cond (equal k e.key) (some e.zone) (get k m)
     → get k (put_at o e f m (put e m)) ≡ cond (equal k e.key) (some e.zone) (get k (f ∷ m))
-get-put_at Before k e f m c ih = refl
-get-put_at Same k e f m c ih =
+get-put_at Less k e f m c ih = refl
+get-put_at Equal k e f m c ih =
     rw (← equal_true e.key f.key (rw c tt)) (cond_again (equal k e.key) (some e.zone) (some f.zone) (get k m))
-get-put_at After k e f m c ih =
-    rw ih (cond-swap (equal k f.key) (equal k e.key) (some f.zone) (some e.zone) (get k m) (λ i j. not_both k e.key f.key (ap is_same c) j i))
+get-put_at Greater k e f m c ih =
+    rw ih (cond-swap (equal k f.key) (equal k e.key) (some f.zone) (some e.zone) (get k m) (λ i j. not_both k e.key f.key (ap is_eq c) j i))
 
 pub get-put : (k : Bits) (e : Entry) (m : Map) → get k (put e m) ≡ cond (equal k e.key) (some e.zone) (get k m)
 get-put k e [] = refl
@@ -137,12 +138,12 @@ tails_at true k e f m n d c h i g =
     rw q (get_none e.key m h ∙ sym (get_none e.key n (rw d i)))
 tails_at false k e f m n d c h i g = rw (← d, c) at g
 
-heads_at : (o : Order) (e f : Entry) (m n : Map) → order e.key f.key ≡ o → T (rising (keys (e ∷ m))) → T (rising (keys (f ∷ n)))
+heads_at : (o : Ordering) (e f : Entry) (m n : Map) → order e.key f.key ≡ o → T (rising (keys (e ∷ m))) → T (rising (keys (f ∷ n)))
     → ((k : Bits) → get k (e ∷ m) ≡ get k (f ∷ n)) → (((k : Bits) → get k m ≡ get k n) → m ≡ n) → e ∷ m ≡ f ∷ n
 unfolding keys
-heads_at Before e f m n c h i g ih = absurd (no_less e f m n (rw c tt) i (g e.key))
-heads_at After e f m n c h i g ih = absurd (no_less f e n m (rw (order_flip e.key f.key, c) tt) h (sym (g f.key)))
-heads_at Same e f m n c h i g ih =
+heads_at Less e f m n c h i g ih = absurd (no_less e f m n (rw c tt) i (g e.key))
+heads_at Greater e f m n c h i g ih = absurd (no_less f e n m (rw (order_flip e.key f.key, c) tt) h (sym (g f.key)))
+heads_at Equal e f m n c h i g ih =
     let d : e.key ≡ f.key = equal_true e.key f.key (rw c tt) in
     let z : e.zone ≡ f.zone = some-injective e.zone f.zone (sym (get-head e m) ∙ g e.key ∙ subst (λ (p : Bits). get p (f ∷ n) ≡ some f.zone) (sym d) (get-head f n)) in
     let t : m ≡ n = ih (λ k. tails_at (equal k e.key) k e f m n d refl (and_left (all (before e.key) (keys m)) (rising (keys m)) h)
@@ -170,13 +171,13 @@ get_mem e (f ∷ m) h (Memᴰ.head q) = subst (λ (x : Entry). get x.key (f ∷ 
 get_mem e (f ∷ m) h (Memᴰ.tail i) =
     let b : T (before f.key e.key) =
     all_mem (before f.key) (keys m) (and_left (all (before f.key) (keys m)) (rising (keys m)) h) e.key (mem-map (λ x. x.key) i) in
-    let o : order e.key f.key ≡ After = order_flip f.key e.key ∙ ap flip (before-order (order f.key e.key) b) in
+    let o : order e.key f.key ≡ Greater = order_flip f.key e.key ∙ ap ordering_reverse (before-order (order f.key e.key) b) in
     rw o (get_mem e m (and_right (all (before f.key) (keys m)) (rising (keys m)) h) i)
   where
-    before-order : (o : Order) → T (is_before o) → o ≡ Before
-    before-order Before h = refl
-    before-order Same h = elim h [ ]
-    before-order After h = elim h [ ]
+    before-order : (o : Ordering) → T (is_lt o) → o ≡ Less
+    before-order Less h = refl
+    before-order Equal h = elim h [ ]
+    before-order Greater h = elim h [ ]
 get_mem e [] h absent = elim absent [ ]
 
 -- two stores on different keys, in either order

@@ -5,10 +5,10 @@ use mathlib.Core.Path.{◌≡◌, refl, sym, ap, ◌∙◌}
 use mathlib.Core.Bool.{Bool, true, false, ◌||◌, or_self_left}
 use mathlib.Core.List.{List, [], ◌∷◌, map, Memᴰ}
 use lib.Dec.{T}
+use Rattle.std.specs.declared.cmp.Ordering.{Ordering}
+use Rattle.std.specs.declared.cmp.Ordering.TheVariants.{Less, Equal, Greater}
 use Rattle.bits.specs.Lists.{any, all, each}
 use Rattle.bits.specs.Bits.{Bits, lcp, order, before, equal, rising, member}
-use Rattle.bits.specs.declared.Order.{Order}
-use Rattle.bits.specs.declared.Order.TheVariants.{Before, Same, After}
 use Rattle.bits.proofs.ListsLaws.{or_swap, and_left, and_right, and_both, any-map, any-each, any_mem, mem-any, T_true, true-T}
 use Rattle.bits.proofs.BitsLaws.{equal_true, equal_refl, eq-equal, order_flip}
 use Rattle.bits.proofs.RisingLaws.{before-rising, rising_ext}
@@ -16,22 +16,22 @@ use Rattle.zones.specs.Nodes.{join, join_at, in_order, nodes}
 
 -- ---- join
 
-any-join_at : (o : Order) (p q x : Bits) (qs : List Bits) → order q x ≡ o
+any-join_at : (o : Ordering) (p q x : Bits) (qs : List Bits) → order q x ≡ o
     → any (equal p) (join q qs) ≡ (equal p q || any (equal p) qs)
     → any (equal p) (join_at o q x qs (join q qs)) ≡ (equal p q || (equal p x || any (equal p) qs))
-any-join_at Before p q x qs e ih = refl
-any-join_at Same p q x qs e ih = rw (equal_true q x (rw e tt)) (sym (or_self_left (equal p x) (any (equal p) qs)))
-any-join_at After p q x qs e ih = rw ih (or_swap (equal p x) (equal p q) (any (equal p) qs))
+any-join_at Less p q x qs e ih = refl
+any-join_at Equal p q x qs e ih = rw (equal_true q x (rw e tt)) (sym (or_self_left (equal p x) (any (equal p) qs)))
+any-join_at Greater p q x qs e ih = rw ih (or_swap (equal p x) (equal p q) (any (equal p) qs))
 
 pub any-join : (p q : Bits) (qs : List Bits) → any (equal p) (join q qs) ≡ (equal p q || any (equal p) qs)
 any-join p q [] = refl
 any-join p q (x ∷ qs) = any-join_at (order q x) p q x qs refl (any-join p q qs)
 
-all-join_at : (o : Order) (r p q : Bits) (qs : List Bits) → T (before r p) → T (all (before r) (q ∷ qs)) → T (all (before r) (join p qs))
+all-join_at : (o : Ordering) (r p q : Bits) (qs : List Bits) → T (before r p) → T (all (before r) (q ∷ qs)) → T (all (before r) (join p qs))
     → T (all (before r) (join_at o p q qs (join p qs)))
-all-join_at Before r p q qs h k i = and_both (before r p) (all (before r) (q ∷ qs)) h k
-all-join_at Same r p q qs h k i = k
-all-join_at After r p q qs h k i =
+all-join_at Less r p q qs h k i = and_both (before r p) (all (before r) (q ∷ qs)) h k
+all-join_at Equal r p q qs h k i = k
+all-join_at Greater r p q qs h k i =
     and_both (before r q) (all (before r) (join p qs)) (and_left (before r q) (all (before r) qs) k) i
 
 all_join : (r p : Bits) (qs : List Bits) → T (before r p) → T (all (before r) qs) → T (all (before r) (join p qs))
@@ -39,12 +39,12 @@ all_join r p [] h k = and_both (before r p) true h tt
 all_join r p (q ∷ qs) h k =
     all-join_at (order p q) r p q qs h k (all_join r p qs h (and_right (before r q) (all (before r) qs) k))
 
-rising-join_at : (o : Order) (p q : Bits) (qs : List Bits) → order p q ≡ o → T (rising (q ∷ qs)) → T (rising (join p qs))
+rising-join_at : (o : Ordering) (p q : Bits) (qs : List Bits) → order p q ≡ o → T (rising (q ∷ qs)) → T (rising (join p qs))
     → T (rising (join_at o p q qs (join p qs)))
-rising-join_at Before p q qs e h i =
+rising-join_at Less p q qs e h i =
     and_both (all (before p) (q ∷ qs)) (rising (q ∷ qs)) (before-rising p q qs (rw e tt) h) h
-rising-join_at Same p q qs e h i = h
-rising-join_at After p q qs e h i =
+rising-join_at Equal p q qs e h i = h
+rising-join_at Greater p q qs e h i =
     and_both (all (before q) (join p qs)) (rising (join p qs))
     (all_join q p qs (rw (order_flip p q, e) tt) (and_left (all (before q) qs) (rising qs) h)) i
 

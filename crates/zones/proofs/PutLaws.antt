@@ -9,10 +9,11 @@ use mathlib.Core.List.Memᴰ
 use mathlib.Core.List.{[], ◌∷◌, ◌++◌, append-nil, Memᴰ}
 use mathlib.Core.Option.{Option, none, some}
 use lib.Dec.{T}
-use Rattle.bits.specs.Bits.{Bits, is_prefix, lcp, order, is_before, before}
+use Rattle.std.specs.declared.cmp.Ordering.{Ordering}
+use Rattle.std.specs.declared.cmp.Ordering.TheVariants.{Less, Equal as Same, Greater}
+use Rattle.std.specs.Ordering.{is_lt}
+use Rattle.bits.specs.Bits.{Bits, is_prefix, lcp, order, before}
 use Rattle.bits.specs.Meet.{meet}
-use Rattle.bits.specs.declared.Order.{Order}
-use Rattle.bits.specs.declared.Order.TheVariants.{Before, Same, After}
 use Rattle.bits.specs.declared.Meeting.{Meeting}
 use Rattle.bits.specs.declared.Meeting.TheVariants.{Equal, Below, Above, Apart}
 use Rattle.bits.proofs.BitsLaws.{is_prefix_trans, lcp-greatest, order_refl, order_flip, before-longer, before_split}
@@ -73,23 +74,23 @@ module _ {A : Type 0} where
 
 -- ---- put, into one of two maps that follow each other
 
-order-before : (p q : Bits) → T (before p q) → order p q ≡ Before
+order-before : (p q : Bits) → T (before p q) → order p q ≡ Less
 order-before p q h = at (order p q) h
   where
-    at : (o : Order) → T (is_before o) → o ≡ Before
-    at Before h = refl
+    at : (o : Ordering) → T (is_lt o) → o ≡ Less
+    at Less h = refl
     at Same h = elim h [ ]
-    at After h = elim h [ ]
+    at Greater h = elim h [ ]
 
 pub put_first : (e : Entry) (m : Map) → ((f : Entry) → Memᴰ f m → T (before e.key f.key)) → put e m ≡ e ∷ m
 put_first e [] h = refl
 put_first e (f ∷ m) h = rw (order-before e.key f.key (h f (Memᴰ.head refl)))
 
-put_left_at : (o : Order) (e f : Entry) (m n : Map) → put e (m ++ n) ≡ put e m ++ n
+put_left_at : (o : Ordering) (e f : Entry) (m n : Map) → put e (m ++ n) ≡ put e m ++ n
     → put_at o e f (m ++ n) (put e (m ++ n)) ≡ put_at o e f m (put e m) ++ n
-put_left_at Before e f m n ih = refl
+put_left_at Less e f m n ih = refl
 put_left_at Same e f m n ih = refl
-put_left_at After e f m n ih = ap (λ (l : Map). f ∷ l) ih
+put_left_at Greater e f m n ih = ap (λ (l : Map). f ∷ l) ih
 
 put_left : (e : Entry) (m n : Map) → ((f : Entry) → Memᴰ f n → T (before e.key f.key)) → put e (m ++ n) ≡ put e m ++ n
 put_left e [] n h = put_first e n h

@@ -13,10 +13,10 @@
 use Rattle.std.specs.Prelude.{ℕ, ◌≤◌, Bool, not, cond, T, leb, length}
 use mathlib.Core.List.{List, [], ◌∷◌, map, Memᴰ}
 use Rattle.std.proofs.Math.Option.{Option, none, some}
+use Rattle.std.specs.declared.cmp.Ordering.{Ordering}
+use Rattle.std.specs.declared.cmp.Ordering.TheVariants.{Less, Equal, Greater}
 use Rattle.bits.specs.Lists.{keep}
 use Rattle.bits.specs.Bits.{Bits, order, equal, is_prefix, rising}
-use Rattle.bits.specs.declared.Order.{Order}
-use Rattle.bits.specs.declared.Order.TheVariants.{Before, Same, After}
 
 pub record Entry : Type 0 where
   pub key : Bits
@@ -36,10 +36,10 @@ abbrev pub get : Bits → Map → Option ℕ
 get k [] = none
 get k (e ∷ m) = cond (equal k e.key) (some e.zone) (get k m)
 
-abbrev pub put_at : Order → Entry → Entry → Map → Map → Map
-put_at Before new e m rest = new ∷ e ∷ m
-put_at Same new e m rest = new ∷ m
-put_at After new e m rest = e ∷ rest
+abbrev pub put_at : Ordering → Entry → Entry → Map → Map → Map
+put_at Less new e m rest = new ∷ e ∷ m
+put_at Equal new e m rest = new ∷ m
+put_at Greater new e m rest = e ∷ rest
 
 -- "Store adds a prefix or replaces its zone number"
 abbrev pub put : Entry → Map → Map

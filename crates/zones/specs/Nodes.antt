@@ -10,16 +10,16 @@
 -- Assumes nothing.
 use Rattle.std.specs.Prelude.{ℕ, suc, Bool, cond, List, [], ◌∷◌, ◌++◌, map, leb, ltb, eqb, length, take}
 use Rattle.std.proofs.Math.Option.{Option, none, some}
+use Rattle.std.specs.declared.cmp.Ordering.{Ordering}
+use Rattle.std.specs.declared.cmp.Ordering.TheVariants.{Less, Equal, Greater}
 use Rattle.bits.specs.Lists.{keep, any, each, last}
 use Rattle.bits.specs.Bits.{Bits, order, is_prefix, lcp}
-use Rattle.bits.specs.declared.Order.{Order}
-use Rattle.bits.specs.declared.Order.TheVariants.{Before, Same, After}
 use Rattle.zones.specs.Maps.{Entry, Map, keys, put}
 
-abbrev pub join_at : Order → Bits → Bits → List Bits → List Bits → List Bits
-join_at Before p q qs rest = p ∷ q ∷ qs
-join_at Same p q qs rest = q ∷ qs
-join_at After p q qs rest = q ∷ rest
+abbrev pub join_at : Ordering → Bits → Bits → List Bits → List Bits → List Bits
+join_at Less p q qs rest = p ∷ q ∷ qs
+join_at Equal p q qs rest = q ∷ qs
+join_at Greater p q qs rest = q ∷ rest
 
 abbrev pub join : Bits → List Bits → List Bits
 join p [] = p ∷ []

@@ -1,7 +1,7 @@
--- `accepted::cut`: the measure, since `i` goes up by ones to `n`.
+-- `accepted::cut`: no more are accepted than were tried.
 -- Assumes nothing.
-use Rattle.std.proofs.Common.{◌-◌}
+use Prim.Native.Nat.{◌≤◌}
 use Rattle.accepted.proofs.cut.Given as goal
 
-abbrev pub decreases-loop-i : goal.decreases-loop-i
-decreases-loop-i g l = l.n - l.i
+abbrev pub invariant-loop-i : goal.invariant-loop-i
+invariant-loop-i g l = l.yes ≤ l.i

@@ -1,6 +1,7 @@
--- `accepted::others`: the measure, since `left` goes down by ones. A store keeps the image's length.
+-- `accepted::others`: no more are accepted than were tried.
 -- Assumes nothing.
+use Prim.Native.Nat.{◌≤◌}
 use Rattle.accepted.proofs.others.Given as goal
 
-abbrev pub decreases-loop-left : goal.decreases-loop-left
-decreases-loop-left l = l.left
+abbrev pub invariant-loop-v : goal.invariant-loop-v
+invariant-loop-v l = l.yes ≤ l.v

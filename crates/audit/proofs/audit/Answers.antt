@@ -2,7 +2,7 @@
 -- Assumes nothing.
 use native.Mathlib.Omega.{arith}
 use borrow.Author.Rules.{rules}
-use Rattle.audit.proofs.CheckingLaws.{is_table-table, audit_on_length, audit_on-bad, audit_on-chained, audit_on-unchained}
+use Rattle.audit.proofs.CheckingLaws.{is_table-table, audit_on_length, audit_on-bad, audit_on-chained}
 use Rattle.audit.proofs.PromiseLaws.{check-promise}
 use Rattle.audit.proofs.audit.Goals as goal
 
@@ -18,20 +18,13 @@ overflow_sub-c c = let n = is_table-table _ _ c.is_table.ensures (search rules) 
 pub overflow_cast-c : goal.overflow_cast-c
 overflow_cast-c c = let n = is_table-table _ _ c.is_table.ensures (search rules) in omega arith
 
-pub returns-then-chain : goal.returns-then-chain
-returns-then-chain c =
+pub returns-in-None : goal.returns-in-None
+returns-in-None c =
     check-promise _ _
-    (audit_on-chained _ _ c.is_table.ensures (search rules) _ c.read_header-h.ensures
-    _ c.below-x.ensures _ c.in-Left.is _ c.chain.ensures (search rules))
+    (audit_on-bad _ _ c.is_table.ensures (search rules) _ c.read_header-h.ensures _ c.below.ensures c.in-None.is)
 
-pub returns-in-Bad : goal.returns-in-Bad
-returns-in-Bad c =
+pub returns-in-Some : goal.returns-in-Some
+returns-in-Some c =
     check-promise _ _
-    (audit_on-bad _ _ c.is_table.ensures (search rules) _ c.read_header-h.ensures
-    _ c.below-x.ensures c.in-Bad.is)
-
-pub returns-else-chain : goal.returns-else-chain
-returns-else-chain c =
-    check-promise _ _
-    (audit_on-unchained _ _ c.is_table.ensures (search rules) _ c.read_header-h.ensures
-    _ c.below-x.ensures _ c.in-Left.is _ c.chain.ensures (search rules))
+    (audit_on-chained _ _ c.is_table.ensures (search rules) _ c.read_header-h.ensures _ c.below.ensures
+    _ _ c.in-Some.is c.chain.ensures)

@@ -6,4 +6,4 @@ use Rattle.ground.proofs.column.Goals as goal
 
 pub returns : goal.returns
 unfolding column
-returns c = cc (to_z-of_z c.ranges.lon)
+returns c = rw (c.min.ensures, c.scaled.ensures, to_z-of_z c.ranges.lon)

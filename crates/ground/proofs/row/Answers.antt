@@ -6,4 +6,4 @@ use Rattle.ground.proofs.row.Goals as goal
 
 pub returns : goal.returns
 unfolding row
-returns c = cc (to_z-of_z c.ranges.lat)
+returns c = rw (c.min.ensures, c.scaled.ensures, to_z-of_z c.ranges.lat)

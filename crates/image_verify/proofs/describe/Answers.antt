@@ -1,22 +1,19 @@
 -- `image_verify::describe` meets its contract: the tests are those of the definition.
 -- Assumes nothing.
-use borrow.Author.Rules.{rules}
+use mathlib.Core.Path.{sym}
 use Rattle.image_verify.proofs.CheckLaws.{frame-inside}
 use Rattle.image_verify.proofs.DescribingLaws.{describe-promise, describe_on-bad, describe_on_short, describe_on-room}
 use Rattle.image_verify.proofs.describe.Goals as goal
 
-pub returns-then-end-start : goal.returns-then-end-start
-returns-then-end-start c =
-    describe-promise _ _ (describe_on_short _ _ c.frame-x.ensures _ _ _ c.in-Frame.is (search rules))
+pub returns-in_default : goal.returns-in_default
+returns-in_default c = describe-promise _ _ (describe_on-bad _ (sym c.in_default.ensures))
 
-pub entry_count-requires : goal.entry_count-requires
-entry_count-requires c =
-    (search rules, frame-inside _ _ c.frame-x.ensures _ _ _ c.in-Frame.is)
+pub returns-then-tail-start : goal.returns-then-tail-start
+returns-then-tail-start c = describe-promise _ _ (describe_on_short _ c.in-Some.tail (sym c.in-Some.ensures) c.if-tail-start.true)
 
-pub returns-in-Bad : goal.returns-in-Bad
-returns-in-Bad c = describe-promise _ _ (describe_on-bad _ _ c.frame-x.ensures c.in-Bad.is)
+pub invariant_of-section : goal.invariant_of-section
+invariant_of-section c = record { inside = frame-inside _ c.in-Some.tail (sym c.in-Some.ensures) }
 
-pub returns-else-end-start : goal.returns-else-end-start
-returns-else-end-start c =
-    describe-promise _ _
-    (describe_on-room _ _ c.frame-x.ensures _ _ _ c.in-Frame.is (search rules) _ c.entry_count.ensures)
+pub returns : goal.returns
+returns c =
+    describe-promise _ _ (describe_on-room _ c.in-Some.tail (sym c.in-Some.ensures) c.if-tail-start.false _ c.count.ensures)

@@ -1,40 +1,49 @@
 -- `image_write::write` meets its contract: the table is checked first, then measured, and the image is
 -- written only where it fits.
 -- Assumes nothing.
-use borrow.Author.Rules.{rules}
+use Rattle.std.proofs.Common.{◌≡◌, true, ap, ◌∙◌, Ok, rules}
+use Rattle.std.proofs.lemmas.Result.{err_from_is_err_and}
 use Rattle.image_write.proofs.WriteLaws.{Checked, write-bad_length, write_damaged, plan_small, write_short, fills-table, write-wrote}
 use Rattle.image_write.proofs.write.Goals as goal
-use Rattle.image_write.proofs.write.Goals.{After-audit-x}
+use Rattle.image_write.proofs.write.Goals.{After-audit, Else-not-branch}
 
 -- the bounds of what is lent and passed, and what the check says
-checked : (c : After-audit-x) → Checked c.args.table.now c.args.epoch c.audit-x.result
-checked c =
-    record { words = λ i. (c.type_inv.table i).fits; small = c.ranges.epoch.fits; check = c.audit-x.ensures }
+checked : (c : After-audit) → Checked c.args.table.now c.args.epoch c.audit.result
+checked c = record { words = λ i. (c.type_inv.table i).fits; small = c.ranges.epoch.fits; check = c.audit.ensures }
+
+pub returns-in_err-audit : goal.returns-in_err-audit
+returns-in_err-audit c =
+    let p = err_from_is_err_and c.from_residual.result c.from_residual.ensures.1 in
+    rw (p.1, p.2) (write-bad_length (checked (goal.at.returns-in_err-audit c).After-audit) _ _ c.in_err-audit.was)
+
+pub returns-then-not-branch : goal.returns-then-not-branch
+returns-then-not-branch c =
+    write_damaged (checked (goal.at.returns-then-not-branch c).After-audit) _ (c.in_ok-audit.was ∙ ap Ok c.if-not-branch.true)
+
+-- the check says yes
+table : (c : Else-not-branch) → c.audit.result ≡ Ok true
+table c = c.in_ok-audit.was ∙ ap Ok c.if-not-branch.false
 
 pub plan_of-p-requires : goal.plan_of-p-requires
-plan_of-p-requires c = c.audit-x.ensures.yes c.in-Yes.is
+plan_of-p-requires c = c.audit.ensures.yes (table (goal.at.plan_of-p-requires c).Else-not-branch)
 
 pub length_of-size-requires : goal.length_of-size-requires
 length_of-size-requires c =
-    plan_small (checked (goal.at.length_of-size-requires c).After-audit-x) c.in-Yes.is _ c.plan_of-p.ensures
+    let at = goal.at.length_of-size-requires c in
+    plan_small (checked at.After-audit) (table at.Else-not-branch) _ c.plan_of-p.ensures
 
 pub returns-then-out-size : goal.returns-then-out-size
 returns-then-out-size c =
-    write_short (checked (goal.at.returns-then-out-size c).After-audit-x) c.in-Yes.is _ c.plan_of-p.ensures _ _
-    c.length_of-size.ensures (search rules)
+    let at = goal.at.returns-then-out-size c in
+    write_short (checked at.After-audit) (table at.Else-not-branch) _ c.plan_of-p.ensures _ _ c.length_of-size.ensures (search rules)
 
 pub put_image-requires : goal.put_image-requires
 put_image-requires c =
-    fills-table (checked (goal.at.put_image-requires c).After-audit-x) c.in-Yes.is _ c.plan_of-p.ensures _ _
-    c.length_of-size.ensures (search rules)
+    let at = goal.at.put_image-requires c in
+    fills-table (checked at.After-audit) (table at.Else-not-branch) _ c.plan_of-p.ensures _ _ c.length_of-size.ensures (search rules)
 
-pub returns-in-BadLength : goal.returns-in-BadLength
-returns-in-BadLength c = write-bad_length (checked (goal.at.returns-in-BadLength c).After-audit-x) _ c.in-BadLength.is
-
-pub returns-in-No : goal.returns-in-No
-returns-in-No c = write_damaged (checked (goal.at.returns-in-No c).After-audit-x) _ c.in-No.is
-
-pub returns-else-out-size : goal.returns-else-out-size
-returns-else-out-size c =
-    write-wrote (checked (goal.at.returns-else-out-size c).After-audit-x) c.in-Yes.is _ c.plan_of-p.ensures _ _
-    c.length_of-size.ensures (search rules) _ c.put_image.ensures
+pub returns : goal.returns
+returns c =
+    let at = goal.at.returns c in
+    write-wrote (checked at.After-audit) (table at.Else-not-branch) _ c.plan_of-p.ensures _ _ c.length_of-size.ensures (search rules) _
+    c.put_image.ensures

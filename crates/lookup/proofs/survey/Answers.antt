@@ -1,25 +1,24 @@
--- `lookup::survey` meets its contract: the tests are those of the definition, in its order.
+-- `lookup::survey` meets its contract: what is refused, and else the walk.
 -- Assumes nothing.
+use mathlib.Core.Path.{◌≡◌, refl, ◌∙◌, sym}
 use borrow.Author.Rules.{rules}
-use Rattle.lookup.proofs.SurveyLaws.{is_table_tested, validity_narrow, survey_on_length, survey_on-prefix, survey_on-room, survey_on-walk}
+use Rattle.std.specs.Prelude.{Err}
+use Rattle.lookup.proofs.SurveyLaws.{refuse_on-accepts, survey_on-refused, survey_on-walk}
 use Rattle.lookup.proofs.survey.Goals as goal
 
-pub returns-then-not-is_table : goal.returns-then-not-is_table
-returns-then-not-is_table c = survey_on_length _ _ _ _ _ c.is_table.ensures (search rules)
+pub returns-in_err-refuse : goal.returns-in_err-refuse
+returns-in_err-refuse c =
+    let e : c.from_residual.result ≡ Err c.in_err-refuse.field-0.0 = search rules in
+    rw e (survey_on-refused _ _ _ _ _ (sym c.refuse.ensures ∙ c.in_err-refuse.was))
 
-pub returns-then-not-valid : goal.returns-then-not-valid
-returns-then-not-valid c =
-    survey_on-prefix _ _ _ _ _ c.is_table.ensures _ c.valid.ensures (search rules) (search rules)
-
-pub returns-then-room-lt-TRAIL : goal.returns-then-room-lt-TRAIL
-returns-then-room-lt-TRAIL c =
-    survey_on-room _ _ _ _ _ c.is_table.ensures _ c.valid.ensures (search rules) (search rules) (search rules)
+pub invariant_of-walk_path : goal.invariant_of-walk_path
+invariant_of-walk_path c = record { narrow = (refuse_on-accepts _ _ _ (sym c.refuse.ensures ∙ c.in_ok-refuse.was)).narrow }
 
 pub walk_path-requires : goal.walk_path-requires
-walk_path-requires c =
-    (is_table_tested _ _ c.is_table.ensures (search rules), validity_narrow _ _ c.valid.ensures (search rules))
+walk_path-requires c = (refuse_on-accepts _ _ _ (sym c.refuse.ensures ∙ c.in_ok-refuse.was)).table
 
 pub returns : goal.returns
 returns c =
-    survey_on-walk _ _ _ _ _ c.is_table.ensures _ _ c.valid.ensures (search rules) (search rules) (search rules)
-    (search rules)
+    let w = c.walk_path.ensures in
+    survey_on-walk _ _ _ _ (sym c.refuse.ensures ∙ c.in_ok-refuse.was)
+    ∙ (λ i. record { widths = sym w.widths i; out = sym (w.path refl) i })

@@ -1,15 +1,29 @@
--- `metadata::frame` meets its contract: it answers by the count, as the definition does.
+-- `metadata::frame` meets its contract: what is compared is the tail that `put_tail` writes.
 -- Assumes nothing.
+use native.Mathlib.Omega.{arith}
 use mathlib.Core.Path.{sym, ◌∙◌}
-use Rattle.metadata.specs.declared.Counted.TheVariants as counted
-use Rattle.metadata.proofs.ReadingLaws.{count_on-nodes, frame_on-count}
+use lib.ListN.{length-take}
+use Rattle.metadata.proofs.ReadingLaws.{tail-room, tail-fits, frame_on_same, frame_on-differ, frame_on-none}
 use Rattle.metadata.proofs.frame.Goals as goal
 
-pub frame_of-requires : goal.frame_of-requires
-frame_of-requires c = count_on-nodes _ _ _ _ (sym c.count.ensures ∙ c.in-Nodes.is)
+pub returns-in_err-x : goal.returns-in_err-x
+returns-in_err-x c = rw c.from_residual.ensures (frame_on-none _ (sym c.in_err-x.ensures.value))
 
-pub returns-in-Bad : goal.returns-in-Bad
-returns-in-Bad c = frame_on-count _ counted.Bad (sym c.in-Bad.is ∙ c.count.ensures)
+pub put_tail-end-requires : goal.put_tail-end-requires
+put_tail-end-requires c = omega (arith, tail-room c.in_ok-x.x.count c.number_at-epoch.result (omega arith))
 
-pub returns-in-Nodes : goal.returns-in-Nodes
-returns-in-Nodes c = c.frame_of.ensures ∙ frame_on-count _ (counted.Nodes _ _ _) (sym c.in-Nodes.is ∙ c.count.ensures)
+pub slice_bounds-wanted-end : goal.slice_bounds-wanted-end
+slice_bounds-wanted-end c = let fits = tail-fits _ _ c.put_tail-end.ensures (omega arith) in omega arith
+
+pub slice_bounds-written-end : goal.slice_bounds-written-end
+slice_bounds-written-end c = let fits = tail-fits _ _ c.put_tail-end.ensures (omega arith) in simp length-take (omega arith)
+
+pub returns-then-eq : goal.returns-then-eq
+returns-then-eq c =
+    frame_on_same _ c.in_ok-x.x (sym c.in_ok-x.ensures.value) c.number_at-epoch.ensures.number c.put_tail-end.ensures (omega arith) (omega arith)
+    (sym c.eq.ensures ∙ c.if-eq.true)
+
+pub returns : goal.returns
+returns c =
+    frame_on-differ _ c.in_ok-x.x (sym c.in_ok-x.ensures.value) c.number_at-epoch.ensures.number c.put_tail-end.ensures (omega arith) (omega arith)
+    (sym c.eq.ensures ∙ c.if-eq.false)

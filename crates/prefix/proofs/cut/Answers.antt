@@ -6,11 +6,9 @@ use Rattle.prefix.proofs.cut.Goals as goal
 
 pub returns-then-n-lt64 : goal.returns-then-n-lt64
 returns-then-n-lt64 c =
-    cut_short _ _ (search rules) (search rules) _ c.high.ensures _ _ _ (search rules) (search rules) c.keep-x.ensures
-    c.top.ensures c.bottom.ensures
+    cut_short _ _ _ _ (search rules) (search rules) c.high.ensures (search rules) _ (search rules) c.of_halves.ensures c.keep.ensures
 
 pub returns : goal.returns
 returns c =
-    cut-long _ _ (search rules) (search rules) _ c.high-x.ensures _ _ _ _ _ _ (search rules) (search rules) (search rules)
-    c.low.ensures c.keep-y.ensures c.top-2.ensures c.bottom-2.ensures c.top-3.ensures
-    c.bottom-3.ensures
+    cut-long _ _ _ _ (search rules) (search rules) c.high-2.ensures (search rules) _ _ (search rules) c.low.ensures c.of_halves-2.ensures
+    c.keep-2.ensures

@@ -4,18 +4,18 @@ use borrow.Author.Rules.{rules}
 use Rattle.prefix.proofs.KeysLaws.{meet-string_of_apart, meet-string_of_above, meet-string_of_below, meet-string_of-equal}
 use Rattle.prefix.proofs.meet.Goals as goal
 
-pub returns-then-n-k : goal.returns-then-n-k
-returns-then-n-k c =
+pub returns-in-true-true : goal.returns-in-true-true
+returns-in-true-true c =
     meet-string_of_apart _ _ c.shared-n.result (search rules) (search rules) (search rules) _ (search rules) (search rules) (search rules)
 
-pub returns-then-n-s : goal.returns-then-n-s
-returns-then-n-s c =
+pub returns-in-true-false : goal.returns-in-true-false
+returns-in-true-false c =
     meet-string_of_above _ _ c.shared-n.result (search rules) (search rules) (search rules) _ (search rules) (search rules) (search rules)
 
-pub returns-then-n-k-2 : goal.returns-then-n-k-2
-returns-then-n-k-2 c =
+pub returns-in-false-true : goal.returns-in-false-true
+returns-in-false-true c =
     meet-string_of_below _ _ c.shared-n.result (search rules) (search rules) (search rules) _ (search rules) (search rules) (search rules)
 
-pub returns : goal.returns
-returns c =
+pub returns-in-false-false : goal.returns-in-false-false
+returns-in-false-false c =
     meet-string_of-equal _ _ c.shared-n.result (search rules) (search rules) (search rules) (search rules) (search rules)

@@ -1,25 +1,13 @@
 -- `image_verify::used::exact` meets its contract. The loop's invariant: up to `base` records and entries
 -- agree, and nothing is marked. The measure is how many bytes are left.
 -- Assumes nothing.
-use native.Mathlib.Omega.{arith}
-use mathlib.Core.Path.{refl, sym}
+use mathlib.Core.Path.{refl}
 use borrow.Author.Rules.{rules}
 use Rattle.image_verify.proofs.CoveredLaws.{covered_start, covered_next, uncovered, exact_on_yes}
 use Rattle.image_verify.proofs.used.exact.Goals as goal
 
 pub loop-base-init : goal.loop-base-init
 loop-base-init c = covered_start _ _ _ 4096 refl (search rules)
-
-pub mark_records-requires : goal.mark_records-requires
-mark_records-requires c =
-    let i = c.loop-base.invariant in
-    (search rules, omega arith, search rules, i.full)
-
-pub flip_starts-at-requires : goal.flip_starts-at-requires
-flip_starts-at-requires c = (search rules, search rules, search rules, search rules, search rules, c.mark_records.ensures.full)
-
-pub slice_bounds-blank-end : goal.slice_bounds-blank-end
-slice_bounds-blank-end c = sym c.flip_starts-at.ensures.marks.full
 
 pub returns-then-not-blank : goal.returns-then-not-blank
 returns-then-not-blank c =

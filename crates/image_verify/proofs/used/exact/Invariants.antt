@@ -6,7 +6,7 @@ use Rattle.image_verify.proofs.CoveredLaws.{Covered}
 use Rattle.image_verify.proofs.used.exact.Given as goal
 
 abbrev pub invariant-loop-base : goal.invariant-loop-base
-invariant-loop-base l = Covered l.bytes l.n l.end l.base l.at l.marks
+invariant-loop-base l = Covered l.section.bytes.now l.n l.section.end l.base l.at l.marks
 
 abbrev pub decreases-loop-base : goal.decreases-loop-base
-decreases-loop-base l = l.end - l.base
+decreases-loop-base l = l.section.end - l.base

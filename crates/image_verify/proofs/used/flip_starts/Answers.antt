@@ -4,30 +4,24 @@
 use native.Mathlib.Omega.{arith}
 use borrow.Author.Rules.{rules}
 use Rattle.image_verify.proofs.StartsLaws.{next-nearer}
-use Rattle.image_verify.proofs.StretchLaws.{flipping_start, flipping_next, flipping_end}
+use Rattle.image_verify.proofs.StretchLaws.{flipping_next, flipping_end}
 use Rattle.image_verify.proofs.used.flip_starts.Goals as goal
-
-pub loop-at-init : goal.loop-at-init
-loop-at-init c = (search rules, search rules, flipping_start _ _ _ _ _ _ (search rules))
-
-pub flip-requires : goal.flip-requires
-flip-requires c = (search rules, c.loop-at.invariant.2.full)
 
 pub loop-at-smaller : goal.loop-at-smaller
 loop-at-smaller c =
-    let w = next-nearer _ _ _ _ (omega arith) c.next_start-at.ensures in
+    let w = next-nearer _ _ _ _ (omega arith) c.after-at.ensures in
     omega arith
 
 pub loop-at-preserved : goal.loop-at-preserved
 loop-at-preserved c =
     let a = c.args in
-    let w = next-nearer a.bytes.now c.loop-at.at a.end c.next_start-at.result (omega arith) c.next_start-at.ensures in (
+    let w = next-nearer a.section.now.bytes.now c.loop-at.at a.section.now.end c.after-at.result (omega arith) c.after-at.ensures in (
       omega arith,
       w.inside,
-      flipping_next a.bytes.now a.first a.end a.base a.stop a.marks.now (search rules) (search rules) c.loop-at.at
+      flipping_next a.section.now.bytes.now a.first a.section.now.end a.span.base a.span.stop a.marks.now (search rules) (search rules) c.loop-at.at
           (search rules) _ _ _ (search rules) c.loop-at.invariant.2
           c.flip.ensures
-          c.next_start-at.ensures,
+          c.after-at.ensures,
     )
 
 pub returns : goal.returns

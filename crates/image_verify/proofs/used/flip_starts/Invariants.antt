@@ -6,7 +6,7 @@ use Rattle.image_verify.proofs.StretchLaws.{Flipping}
 use Rattle.image_verify.proofs.used.flip_starts.Given as goal
 
 abbrev pub invariant-loop-at : goal.invariant-loop-at
-invariant-loop-at l = (l.base ≤ l.at) × (l.at ≤ l.end) × Flipping l.bytes l.first l.end l.base l.stop l.initial.marks l.at l.marks
+invariant-loop-at l = (l.span.base ≤ l.at) × (l.at ≤ l.section.end) × Flipping l.section.bytes.now l.first l.section.end l.span.base l.span.stop l.initial.marks l.at l.marks
 
 abbrev pub decreases-loop-at : goal.decreases-loop-at
-decreases-loop-at l = l.end - l.at
+decreases-loop-at l = l.section.end - l.at

@@ -21,17 +21,11 @@ overflow_sub-way t c = part_low _ _ _ (search rules) _ c.read_record-r.ensures c
 pub returns-then-both_end : goal.returns-then-both_end
 returns-then-both_end t c = counts_end _ _ _ (search rules) _ c.read_record-r.ensures _ c.both_end.ensures (search rules)
 
-pub overflow_add-w : goal.overflow_add-w
-overflow_add-w t c = omega (arith, part_high _ _ _ (search rules) _ c.read_record-r.ensures c.requires)
-
 pub count_below-x-requires : goal.count_below-x-requires
 count_below-x-requires t c =
     let low = part_low _ _ _ (search rules) _ c.read_record-r.ensures c.requires in
     let high = part_high _ _ _ (search rules) _ c.read_record-r.ensures c.requires in
     (omega arith, part_left _ _ _ (search rules) _ c.read_record-r.ensures c.requires)
-
-pub overflow_add-w-2 : goal.overflow_add-w-2
-overflow_add-w-2 t c = omega (arith, part_high _ _ _ (search rules) _ c.read_record-r.ensures c.requires)
 
 pub count_below-y-requires : goal.count_below-y-requires
 count_below-y-requires t c =
@@ -44,9 +38,6 @@ fit : (t : ℕ) (c : After-count_below-y t)
     → c.read_record-r.result.tag / 2 - c.args.a + 1 + c.count_below-x.result + c.count_below-y.result ≤ 129 * 65535
 fit t c =
     counts_fit _ _ _ (search rules) _ c.read_record-r.ensures c.requires _ _ c.count_below-x.ensures c.count_below-y.ensures
-
-pub overflow_add-result : goal.overflow_add-result
-overflow_add-result t c = omega (arith, fit t (goal.at.overflow_add-result t c).After-count_below-y)
 
 pub overflow_add-result-2 : goal.overflow_add-result-2
 overflow_add-result-2 t c = omega (arith, fit t (goal.at.overflow_add-result-2 t c).After-count_below-y)

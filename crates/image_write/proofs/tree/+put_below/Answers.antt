@@ -8,7 +8,7 @@ use lib.ListN.{length}
 use borrow.Author.Rules.{rules}
 use Rattle.image_write.proofs.PartLaws.{inside-hangs}
 use Rattle.image_write.proofs.StockLaws.{stocked_length}
-use Rattle.image_write.proofs.PlantLaws.{grows-tip, Node, planted_low, planted_high, planted-own, planted-stalk, planted-fork, planted_left, planted_right, grew-forked, grew_end}
+use Rattle.image_write.proofs.PlantLaws.{grows-tip, Node, planted_low, planted_high, planted-stalk, planted-fork, planted_left, planted_right, grew-forked, grew_end}
 use Rattle.image_write.proofs.tree.+put_below.Goals as goal
 use Rattle.image_write.proofs.tree.+put_below.Goals.{After-here_of-here, After-put_below-y}
 
@@ -21,15 +21,12 @@ read_record-r-requires t c = inside-hangs _ _ _ _ c.requires.hangs (search rules
 pub overflow_sub-own : goal.overflow_sub-own
 overflow_sub-own t c = planted_low _ _ _ _ _ _ _ _ c.requires (search rules) _ c.read_record-r.ensures
 
-pub overflow_add-own : goal.overflow_add-own
-overflow_add-own t c = omega (arith, planted-own _ _ _ _ _ _ _ _ c.requires (search rules) _ c.read_record-r.ensures)
-
 pub here_of-here-requires : goal.here_of-here-requires
 here_of-here-requires t c = stocked_length _ _ _ _ c.requires.stocked
 
 -- the node whose parts are written
 node : (t : ℕ) (c : After-here_of-here t)
-    → Node c.args.table.now c.args.l c.args.a c.args.above c.args.next c.args.n c.args.runs
+    → Node c.args.table.now c.args.l c.args.a c.args.above c.args.next c.args.p.now.nodes c.args.p.now.runs
     c.args.out.now c.read_record-r.result c.key_of-k.result
     (c.args.next + (c.read_record-r.result.tag / 2 - c.args.a)) c.here_of-here.result
 node t c =
@@ -45,22 +42,10 @@ pub put_stalk-top-requires : goal.put_stalk-top-requires
 put_stalk-top-requires t c =
     planted-stalk _ _ _ _ _ _ _ _ c.requires (search rules) _ c.read_record-r.ensures _ c.key_of-k.ensures
 
-pub shape_of-out-then-both_end : goal.shape_of-out-then-both_end
-shape_of-out-then-both_end t c = c.put_stalk-top.auto.out
-
 pub returns-then-both_end : goal.returns-then-both_end
 returns-then-both_end t c p =
     grew_end _ _ _ _ _ _ _ _ _ _ _ _ (node t (goal.at.returns-then-both_end t c).After-here_of-here) p
     (sym c.both_end.ensures ∙ (search rules)) _ _ c.put_stalk-top.ensures
-
-pub overflow_add-w : goal.overflow_add-w
-overflow_add-w t c = omega (arith, planted_high _ _ _ _ _ _ _ _ c.requires (search rules) _ c.read_record-r.ensures)
-
-pub overflow_add-own-2 : goal.overflow_add-own-2
-overflow_add-own-2 t c =
-    let own = planted-own _ _ _ _ _ _ _ _ c.requires (search rules) _ c.read_record-r.ensures in
-    let fits = stocked_length _ _ _ _ c.requires.stocked in
-    omega arith
 
 pub put_below-x-requires : goal.put_below-x-requires
 put_below-x-requires t c =
@@ -70,9 +55,6 @@ put_below-x-requires t c =
       planted_left _ _ _ _ _ _ _ _ _ _ _ _ (node t (goal.at.put_below-x-requires t c).After-here_of-here) c.requires
           (sym c.both_end.ensures ∙ (search rules)),
     )
-
-pub overflow_add-w-2 : goal.overflow_add-w-2
-overflow_add-w-2 t c = omega (arith, planted_high _ _ _ _ _ _ _ _ c.requires (search rules) _ c.read_record-r.ensures)
 
 pub put_below-y-requires : goal.put_below-y-requires
 put_below-y-requires t c =
@@ -97,10 +79,6 @@ pub put_stalk-top-requires-2 : goal.put_stalk-top-requires-2
 put_stalk-top-requires-2 t c =
     rw (c.put_fork.auto.out, same_sides t (goal.at.put_stalk-top-requires-2 t c).After-put_below-y)
     (planted-stalk _ _ _ _ _ _ _ _ c.requires (search rules) _ c.read_record-r.ensures _ c.key_of-k.ensures)
-
-pub shape_of-out : goal.shape_of-out
-shape_of-out t c =
-    c.put_stalk-top-2.auto.out ∙ c.put_fork.auto.out ∙ same_sides t (goal.at.shape_of-out t c).After-put_below-y
 
 pub returns : goal.returns
 returns t c p =

@@ -14,7 +14,7 @@ returns-then-b-low c =
 
 pub returns-then-b-w : goal.returns-then-b-w
 returns-then-b-w c =
-    sought_of-parted _ _ _ _ _ _ c.shared-b.ensures (search rules) (search rules) _ (search rules) (search rules) (search rules)
+    sought_of-parted _ _ _ _ _ _ c.shared-b.ensures (search rules) (search rules) _ (search rules) (search rules) c.parted.ensures
 
 pub returns-then-bit : goal.returns-then-bit
 returns-then-bit c =

@@ -5,8 +5,8 @@ use Prim.Native.Nat.{◌-◌}
 use Rattle.lookup.specs.Descending.{Reached}
 use Rattle.lookup.proofs.descent.descend.Given as goal
 
-abbrev pub invariant-loop-d : goal.invariant-loop-d
-invariant-loop-d l = Reached l.table l.k l.initial.widths l.d l.widths
+abbrev pub invariant-loop-x : goal.invariant-loop-x
+invariant-loop-x g l = Reached g.N.Note.noted l.table l.k l.initial.widths (g.N.Note.nodes l.note) l.d l.widths
 
-abbrev pub decreases-loop-d : goal.decreases-loop-d
-decreases-loop-d l = 64 - l.d.low
+abbrev pub decreases-loop-x : goal.decreases-loop-x
+decreases-loop-x g l = 64 - l.d.low

@@ -8,7 +8,7 @@ use Rattle.lookup.specs.Walking.{walk_on}
 use Rattle.lookup.proofs.steps.walk_on.Given as goal
 
 abbrev pub invariant-loop-w : goal.invariant-loop-w
-invariant-loop-w l = (l.n ≤ l.s.low) × (l.s.low ≤ 129) × (walk_on (130 - l.n) l.table l.k l.n l.widths l.s ≡ walk_on (130 - l.initial.n) l.table l.k l.initial.n l.initial.widths l.initial.s)
+invariant-loop-w l = (l.n ≤ l.s.low) × (l.s.low ≤ 129) × (walk_on (130 - l.n) l.table l.k.prefix l.n l.widths l.s ≡ walk_on (130 - l.initial.n) l.table l.k.prefix l.initial.n l.initial.widths l.initial.s)
 
 abbrev pub decreases-loop-w : goal.decreases-loop-w
 decreases-loop-w l = 129 - l.s.low

@@ -1,17 +1,11 @@
--- `nalfipode::changes::nalfipode_remove` meets its contract: the answer is the call's, and the number and
--- the values are the answer's own.
+-- `nalfipode::changes::nalfipode_remove` meets its contract: the count of nodes fits a C number.
 -- Assumes nothing.
-use Rattle.nalfipode.proofs.CountsLaws.{remove_few}
+use native.Mathlib.Omega.{arith}
+use Rattle.nalfipode.proofs.CountsLaws.{remove_few, given_few, refused_few}
 use Rattle.nalfipode.proofs.changes.nalfipode_remove.Goals as goal
 
-pub removed-v-requires : goal.removed-v-requires
-removed-v-requires c = remove_few _ _ _ _ _ _ c.remove-x.ensures
+pub overflow_cast-values : goal.overflow_cast-values
+overflow_cast-values c = let few = given_few (remove_few c.remove.ensures) c.in-Ok.is in omega (arith, few)
 
-pub returns : goal.returns
-returns c =
-    record {
-      answer = c.remove-x.result;
-      promise = rw c.keyed-k.ensures at c.remove-x.ensures;
-      number = c.removed-v.ensures.0;
-      listed = c.removed-v.ensures.1;
-    }
+pub overflow_cast-values-in-Err : goal.overflow_cast-values-in-Err
+overflow_cast-values-in-Err c = let few = refused_few (remove_few c.remove.ensures) c.in-Err.is c.nodes.ensures in omega (arith, few)

@@ -1,17 +1,11 @@
--- `nalfipode::changes::nalfipode_store` meets its contract: the answer is the call's, and the number and
--- the values are the answer's own.
+-- `nalfipode::changes::nalfipode_store` meets its contract: the count of nodes fits a C number.
 -- Assumes nothing.
-use Rattle.nalfipode.proofs.CountsLaws.{store_few}
+use native.Mathlib.Omega.{arith}
+use Rattle.nalfipode.proofs.CountsLaws.{store_few, given_few, refused_few}
 use Rattle.nalfipode.proofs.changes.nalfipode_store.Goals as goal
 
-pub stored-v-requires : goal.stored-v-requires
-stored-v-requires c = store_few _ _ _ _ _ _ _ c.store-x.ensures
+pub overflow_cast-nodes : goal.overflow_cast-nodes
+overflow_cast-nodes c = let few = given_few (store_few c.store.ensures) c.in-Ok.is in omega (arith, few)
 
-pub returns : goal.returns
-returns c =
-    record {
-      answer = c.store-x.result;
-      promise = rw c.keyed-k.ensures at c.store-x.ensures;
-      number = c.stored-v.ensures.0;
-      listed = c.stored-v.ensures.1;
-    }
+pub overflow_cast-values : goal.overflow_cast-values
+overflow_cast-values c = let few = refused_few (store_few c.store.ensures) c.in-Err.is c.nodes.ensures in omega (arith, few)

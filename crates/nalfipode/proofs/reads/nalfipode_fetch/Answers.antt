@@ -1,17 +1,11 @@
--- `nalfipode::reads::nalfipode_fetch` meets its contract: the answer is the call's, and the number and
--- the values are the answer's own.
+-- `nalfipode::reads::nalfipode_fetch` meets its contract: the count of nodes fits a C number.
 -- Assumes nothing.
-use Rattle.nalfipode.proofs.CountsLaws.{fetch_few}
+use native.Mathlib.Omega.{arith}
+use Rattle.nalfipode.proofs.CountsLaws.{fetch_few, given_few, refused_few}
 use Rattle.nalfipode.proofs.reads.nalfipode_fetch.Goals as goal
 
-pub fetched-v-requires : goal.fetched-v-requires
-fetched-v-requires c = fetch_few _ _ _ _ _ c.fetch-x.ensures
+pub overflow_cast-values : goal.overflow_cast-values
+overflow_cast-values c = let few = given_few (fetch_few c.fetch.ensures) c.in-Ok.is in omega (arith, few)
 
-pub returns : goal.returns
-returns c =
-    record {
-      answer = c.fetch-x.result;
-      promise = rw c.keyed-k.ensures at c.fetch-x.ensures;
-      number = c.fetched-v.ensures.0;
-      listed = c.fetched-v.ensures.1;
-    }
+pub overflow_cast-values-in-Err : goal.overflow_cast-values-in-Err
+overflow_cast-values-in-Err c = let few = refused_few (fetch_few c.fetch.ensures) c.in-Err.is c.nodes.ensures in omega (arith, few)
