@@ -50,7 +50,7 @@ fn tried(rt: &impl Print, table: &[u32], epoch: u64) -> io::Result<()> {
         Ok(n) => {
             if n < image.len() {
                 asked(rt, &image[..n])?;
-                cut(rt, image, n)?;
+                cut(rt, &image[..n + 1])?;
                 changed(rt, &mut image[..n])?;
             }
             Ok(())
@@ -62,7 +62,7 @@ fn tried(rt: &impl Print, table: &[u32], epoch: u64) -> io::Result<()> {
 // ---- accepted
 
 fn asked(rt: &impl Print, image: &[u8]) -> io::Result<()> {
-    println!(rt; "whole: {}", verdict(image))?;
+    verdict(rt, "whole", image)?;
     look(rt, "0000..", image, 0, 0)?;
     look(rt, "0011..", image, 0x3fff_ffff, 0xffff_ffff)?;
     look(rt, "0100..", image, 0x4000_0000, 0)?;
@@ -82,21 +82,18 @@ fn look(rt: &impl Print, text: &str, image: &[u8], w0: u32, rest: u32) -> io::Re
 
 // ---- too short, too long
 
-fn cut(rt: &impl Print, image: &[u8], n: usize) -> io::Result<()> {
-    let mut yes: usize = 0;
-    for i in 0..n {
-        if i < image.len() && accepted(&image[..i]) {
-            yes += 1;
-        }
-    }
+// `longer` is the image and one byte more.
+fn cut(rt: &impl Print, longer: &[u8]) -> io::Result<()> {
+    let Some((_, image)) = longer.split_last() else {
+        return Ok(());
+    };
+    let yes = (0..image.len()).filter(|n| accepted(&image[..*n])).count();
     println!(rt; "shorter ones accepted: {yes}")?;
-    if n < image.len() {
-        println!(rt; "one byte longer: {}", verdict(&image[..n + 1]))?;
+    verdict(rt, "one byte longer", longer)?;
+    match image.split_first() {
+        Some((_, rest)) => verdict(rt, "one byte off the front", rest),
+        None => Ok(()),
     }
-    if 0 < n && n <= image.len() {
-        println!(rt; "one byte off the front: {}", verdict(&image[1..n]))?;
-    }
-    Ok(())
 }
 
 // ---- one byte changed
@@ -111,7 +108,7 @@ fn changed(rt: &impl Print, image: &mut [u8]) -> io::Result<()> {
     Ok(())
 }
 
-// How many other values of the byte i are accepted.
+// How many other values of the byte i are accepted. Stays a loop: each turn writes the byte first.
 fn others(image: &mut [u8], i: usize) -> usize {
     if image.len() <= i {
         return 0;
@@ -134,11 +131,12 @@ fn accepted(bytes: &[u8]) -> bool {
 
 // ---- printing
 
-fn verdict(bytes: &[u8]) -> &'static str {
-    if accepted(bytes) {
-        return "accepted";
+// What the checker answers.
+fn verdict(rt: &impl Print, text: &str, bytes: &[u8]) -> io::Result<()> {
+    match image_verify::verify(bytes) {
+        Ok(()) => println!(rt; "{text}: accepted"),
+        Err(e) => println!(rt; "{text}: {e}"),
     }
-    "BadImage"
 }
 
 fn store(table: &mut [u32], k: Prefix, zone: u32) -> Result<(), Refusal> {
@@ -146,7 +144,8 @@ fn store(table: &mut [u32], k: Prefix, zone: u32) -> Result<(), Refusal> {
     Ok(())
 }
 
-// A key of at most 32 bits. Stays in each of four programs: a crate for one literal would be no plainer.
+// A key of at most 32 bits. Stays in each of four programs: a crate for what they share (a key of its
+// first word, a store that drops its answer) would have to be a library with contracts of its own.
 fn of(width: u32, w0: u32) -> Prefix {
     Prefix {
         width,

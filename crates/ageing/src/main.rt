@@ -1,6 +1,6 @@
 // An ageing run: 100,000 edits with a fixed seed on a small table that is nearly full, and then each
 // key's path compared with that in a table built afresh from the same set. Age adds nothing to a
-// path, so the two numbers on the last line are equal.
+// path, so the numbers on the last two lines are equal.
 
 #![tactic(auto)]
 
@@ -137,8 +137,11 @@ fn nth(i: u32) -> Prefix
     key_of(i.ilog2(), i)
 }
 
+// (two refusals that are equal are no path)
 fn same_path(old: &[u32], new: &[u32], k: Prefix) -> bool {
     let mut one = [0; TRAIL];
     let mut two = [0; TRAIL];
-    lookup::longest_match(old, k, &mut one) == lookup::longest_match(new, k, &mut two) && one == two
+    let a = lookup::longest_match(old, k, &mut one);
+    let b = lookup::longest_match(new, k, &mut two);
+    a.is_ok() && a == b && one == two
 }

@@ -69,7 +69,7 @@ fn is_node(r: Record, at: Option<Under>) -> bool
     prefix::valid(k) && stands(k, at) && (r.tag % 2 == 1 || (0 < r.left && 0 < r.right))
 }
 
-// The key begins as the place says.
+// The key begins as the place says. Stays a match: with `is_none_or`, the proof of what it returns did not close.
 fn stands(k: Prefix, at: Option<Under>) -> bool
     requires { Valid k × (low_of at ≤ 129) }
     ensures { result ≡ stands_of k at }

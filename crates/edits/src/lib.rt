@@ -90,7 +90,7 @@ pub fn remove(table: &mut [u32], k: Prefix, trail: &mut [u8]) -> Result<Keyed<u3
     let p = lookup::survey(table, k, trail.len(), &mut widths)?;
     let answer = match lookup::stored_at(p.walk.longest, k.width) {
         Some(zone) => {
-            plans::make_remove(table, k, p.walk).or(Err(Refusal::Damaged))?;
+            plans::make_remove(table, k, p.walk).map_err(|_| Refusal::Damaged)?;
             Ok(Keyed {
                 nodes: p.nodes,
                 value: zone,

@@ -16,9 +16,7 @@ use refusals::Refusal;
 pub fn look(bytes: &[u8], key: [u32; 4]) -> Result<Option<u32>, Refusal>
     ensures { LookImage bytes.now (address_bits (slice_index key 0) (slice_index key 1) (slice_index key 2) (slice_index key 3)) result }
 {
-    let Some(x) = metadata::count(bytes) else {
-        return Err(Refusal::BadImage);
-    };
+    let x = metadata::count(bytes).ok_or(Refusal::BadImage)?;
     if bytes.len() < 6 * x.count as usize {
         return Err(Refusal::BadImage);
     }
@@ -89,8 +87,8 @@ impl Tree<'_> {
 }
 
 // The data entry at a byte: one byte C0 + size, then the number.
-// Stays beside the checker's `read`, which also tests for the shortest form and gives the next entry's start:
-// a lookup needs neither, and is safe on any bytes.
+// Stays beside the checker's `read`, which also tests for the shortest form, stops at its section's end and gives
+// where the next entry starts: a lookup needs none of these.
 #[tactic(auto, unfolding(crate::specs::Looking::entry_on))]
 fn entry(bytes: &[u8], at: usize) -> Result<Option<u32>, Refusal>
     ensures { result ≡ entry_on bytes.now at }

@@ -15,8 +15,8 @@ pub(crate) struct Section<'a> {
     ghost inside: { end ≤ length bytes.now },
 }
 
-// Stays: `entries`, `count` and the marks of `used` each walk by a loop of their own. An iterator would have to
-// show where it stands, which `entries` asks for at its end and `used` where a stretch stops.
+// Stays: `entries`, `count` and the marks of `used` each walk by a loop of their own. Each carries something else: the
+// least number that may come, a count, the marks. A cursor's own contract would have to say in one what each loop says.
 impl Section<'_> {
     // From `start` on there are entries, in shortest form, each number above the last.
     pub(crate) fn entries(&self, start: usize) -> bool
@@ -51,6 +51,7 @@ impl Section<'_> {
     }
 
     // Where the entry after the one at `at` starts, or the end where there is none.
+    // Stays the end and no Option where nothing comes: that is where the loop that asks stops.
     pub(crate) fn after(&self, at: usize) -> usize
         requires { at < self.now.end }
         ensures { result ≡ next_of self.now.end (read_on self.now.bytes.now at self.now.end) }

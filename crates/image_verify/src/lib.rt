@@ -24,9 +24,7 @@ use used::exact;
 pub fn verify(bytes: &[u8]) -> Result<(), Refusal>
     ensures { VerifyImage bytes.now result }
 {
-    let Some(tail) = metadata::frame(bytes) else {
-        return Err(Refusal::BadImage);
-    };
+    let tail = metadata::frame(bytes).ok_or(Refusal::BadImage)?;
     if parts(bytes, tail) {
         return Ok(());
     }
@@ -56,6 +54,7 @@ fn parts(bytes: &[u8], tail: Tail) -> bool
         && exact(&section, tail.nodes)
 }
 
+// Every byte is 0. Stays beside `marks::blank`: that is of words and this of bytes, one line each.
 fn zeros(bytes: &[u8]) -> bool
     ensures { result ≡ list_all (λ b. b == 0) bytes.now }
 {
@@ -78,9 +77,7 @@ pub struct Description {
 pub fn describe(bytes: &[u8]) -> Result<Description, Refusal>
     ensures { Describe bytes.now result }
 {
-    let Some(tail) = metadata::frame(bytes) else {
-        return Err(Refusal::BadImage);
-    };
+    let tail = metadata::frame(bytes).ok_or(Refusal::BadImage)?;
     let start = 6 * (tail.nodes as usize) + 16;
     if tail.start < start {
         return Err(Refusal::BadImage);

@@ -23,6 +23,8 @@ impl Tree<'_> {
         if self.nodes == 0 {
             return false;
         }
+        // Stays a match: tried as `is_some_and`, and the proof of it did not close: of a closure without a clause of
+        // its own nothing was known here.
         match self.below(0, 128) {
             Some(x) => x.next == self.nodes,
             None => false,

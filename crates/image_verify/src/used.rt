@@ -22,7 +22,8 @@ pub(crate) fn exact(section: &Section, n: u32) -> bool
     let mut marks = [0u32; 4096];
     let mut base = start;
     let mut at = start;
-    // Stays a while: where a stretch stops is where the next begins, and the next start goes with it.
+    // Stays a while: tried as a `for` over the bytes a stretch apart, and the proof of it did not close: the last
+    // step of one goes past the end, where the loop's fact is of no bytes.
     while base < section.end {
         let span = Span {
             base,
@@ -52,6 +53,7 @@ fn mark_records(bytes: &[u8], n: u32, span: Span, marks: &mut [u32; 4096])
     ensures { Marks marks.new (λ e. has marks.old e || (ltb (span.base + e) span.stop && uses_on bytes.now n (span.base + e))) }
 {
     let count = 2 * (n as usize);
+    // (a record r that is no node means the byte r + 5n)
     let tree = 5 * (n as usize);
     for j in 0..count {
         let r = metadata::record_at(bytes, 3 * j) as usize;

@@ -9,7 +9,8 @@ use refusals::Refusal;
 const MOST: u32 = 4096;
 
 // The first refusal that applies, if there is one.
-// Stays without the key in its answer: handing it on takes some 750 instructions more in a slice of 64.
+// Stays without the key in its answer: handing it on takes some 750 instructions more in a slice of 64, which takes
+// some 5,100 over 20,000 routes; with what `put_entry` saves, it would be behind the safe Rust tree's 6,199.
 #[tactic(auto, unfolding(crate::specs::Slicing::refused_of))]
 pub(crate) fn refuse(
     n: usize,
@@ -35,7 +36,8 @@ pub(crate) fn refuse(
     Ok(())
 }
 
-// The resume prefix, if there is one, is valid.
+// The resume prefix, if there is one, is valid. Stays a match: with `is_none_or` here, and a range in
+// `records::is_table`, a slice of 64 took some 1,070 instructions more.
 fn sound(resume: Option<Prefix>) -> bool
     ensures { result ≡ sound_of resume }
 {

@@ -1,5 +1,6 @@
 // The links left open: a stack of as many as the tree of a table may need, the first `depth` of `open`.
-// A link is 0 for none, as in a table.
+// A link stays a number, 0 for none: it is passed on as the table has it, and an Option of it would be made and
+// taken apart at each node.
 ghost use Rattle.std.specs.Prelude.{◌≤◌, ◌≡◌, IsOk};
 ghost use Rattle.listing.specs.Touring.{push_on, pop_on, room_on};
 

@@ -74,7 +74,8 @@ fn put_entry(out: &mut [u32], n: u32, r: Record) -> u32
         return n;
     }
     let at = 6 * (n as usize);
-    // Stays: `copy_from_slice` first puts the six words on the stack, nine instructions more an entry.
+    // Stays: `copy_from_slice` first puts the six words on the stack, nine instructions more an entry: some 580 of
+    // the 5,100 that a slice of 64 takes over 20,000 routes.
     out[at] = r.w0;
     out[at + 1] = r.w1;
     out[at + 2] = r.w2;

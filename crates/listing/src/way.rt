@@ -17,7 +17,8 @@ pub(crate) struct Seek {
 }
 
 // One step on the way to the resume prefix: go on to a link, which must share so many bits with it,
-// or be done with a link to start from; and the side to keep open (0 for none).
+// or be done with a link to start from; and the side to keep open (0 for none). An enum of its own: both are turns
+// of a walk that goes well, so that none of them is a failure or nothing.
 #[derive(Clone, Copy, Debug, PartialEq, Eq)]
 enum Sought {
     On(u32, u32, u32),

@@ -12,7 +12,8 @@ use prefix::Prefix;
 
 // Where a descent stands, in as few registers as will do. A record goes by the word at which it starts,
 // which is less than 2^20. There is the next one, that of the last stored node (0 for none), how many
-// bits a node must share, and how many nodes there were. `held` stays a number: 0 is no link in the table's own words.
+// bits a node must share, and how many nodes there were. `held` is a word's place and no link, and stays a number, in
+// one register: 0 is the header's place, where no record starts.
 #[derive(Clone, Copy, Debug, PartialEq, Eq)]
 pub struct Descent {
     pub next: usize,
@@ -37,7 +38,8 @@ pub trait Note: Copy {
         requires { at < 1048576 }
         ensures { noted ≡ true → nodes result ≡ nodes self * 1048576 % 2 ^ 64 + at };
 
-    // The last three, or 0 where they are not noted.
+    // The last three, or 0 where they are not noted. They stay one number, which takes one register: an edit hangs
+    // its change from these three, 20 bits each.
     fn last(self) -> u64
         ensures { noted ≡ true → result ≡ nodes self };
 }
@@ -101,8 +103,7 @@ pub fn descend<N: Note>(
         return (d, note);
     }
     while let Some(x) = turn_at(table, k, d.next, d.low) {
-        let n = d.n;
-        widths[n] = (x.tag / 2) as u8;
+        widths[d.n] = (x.tag / 2) as u8;
         note = note.with(d.next);
         d = past(d, x);
     }

@@ -35,13 +35,12 @@ pub fn fetch(table: &[u32], k: Prefix, trail: &mut [u8]) -> Result<Keyed<u32>, R
     ensures { Fetch table.now k trail.old result trail.new }
 {
     let x = longest_match(table, k, trail)?;
-    match stored_at(x.value, k.width) {
-        Some(zone) => Ok(Keyed {
+    stored_at(x.value, k.width)
+        .map(|zone| Keyed {
             nodes: x.nodes,
             value: zone,
-        }),
-        None => Err(Refusal::Absent(x.nodes)),
-    }
+        })
+        .ok_or(Refusal::Absent(x.nodes))
 }
 
 // The number of a key of this width itself, by its longest stored prefix.
@@ -64,7 +63,9 @@ pub struct Match {
 }
 
 // The longest stored prefix of k, or none. An answer writes the trail as `fetch` does, and a refusal leaves it:
-// so the widths go to a local array first, since a Damaged call leaves the trail alone.
+// so the widths go to a local array first, since a Damaged call leaves the trail alone. In line in both reads, where its
+// answer then takes no memory.
+#[inline(always)]
 pub fn longest_match(
     table: &[u32],
     k: Prefix,
@@ -84,7 +85,8 @@ pub fn longest_match(
 
 // The refusals of a keyed call before its walk, in their order: on a table of so many words, and with a trail of
 // `room` bytes.
-// Stays without the key in its answer: handing it on takes some 20 instructions more in a store.
+// Stays without the key in its answer: handing it on takes some 20 instructions more in a store, which takes 904
+// over 20,000 routes, and its bar is 910 (docs/BENCHMARKS.md).
 #[tactic(auto, unfolding(crate::specs::Walking::refuse_on))]
 fn refuse(words: usize, k: Prefix, room: usize) -> Result<(), Refusal>
     ensures { result ≡ refuse_on words k room }
@@ -103,9 +105,10 @@ fn refuse(words: usize, k: Prefix, room: usize) -> Result<(), Refusal>
 
 // ---- the walk
 
-// Where a walk stands: the links of the last three nodes that are prefixes of the key (0 for none),
-// the link to look at next, and how many bits of the key a node there must share; and the longest
-// stored prefix so far.
+// Where a walk stands: the links of the last three nodes that are prefixes of the key, the link to look at next,
+// and how many bits of the key a node there must share; and the longest stored prefix so far. Links stay numbers:
+// 0 is no link, as in the table's own words. In a read the nodes that its descent passed are not noted, and 0
+// stands in their place.
 #[derive(Clone, Copy, Debug, PartialEq, Eq)]
 pub struct Walk {
     pub at: u32,
@@ -126,7 +129,7 @@ pub enum Step {
 }
 
 // The node that a walk ends at: the last that is a prefix of the key (0 for none), or one that is
-// none, with how many bits it shares.
+// none, with how many bits it shares. These two are what paper 01's walk yields, so it is no Option.
 #[derive(Clone, Copy, Debug, PartialEq, Eq)]
 pub enum Met {
     Matching(u32),
@@ -159,7 +162,7 @@ pub fn survey(
 
 // Copies the first n bytes.
 pub fn copy_first(from: &[u8; TRAIL], n: usize, to: &mut [u8])
-    requires { (n ≤ 129) × (n ≤ length to.old) × (length from.now ≡ 129) }
+    requires { (n ≤ 129) × (n ≤ length to.old) }
     ensures { to.new ≡ paste to.old 0 from.now n }
 {
     to[..n].copy_from_slice(&from[..n]);

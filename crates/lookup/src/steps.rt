@@ -22,8 +22,9 @@ pub fn walk_path<N: Note>(table: &[u32], k: Key, widths: &mut [u8; TRAIL]) -> Re
     walk_on(table, k, d.n, s, widths)
 }
 
-// Goes on step by step from where a walk stands after some nodes, to the end of the path. In line in both of its
-// callers, where its answer then takes no memory: that saves every call some 100 instructions.
+// Goes on step by step from where a walk stands after some nodes, to the end of the path. Stays a loop left by
+// break, which yields the last matching node or the mismatching one: that is the form that paper 01 names. In line
+// in both of its callers, where its answer then takes no memory: that saves every call some 100 instructions.
 #[inline(always)]
 fn walk_on(
     table: &[u32],

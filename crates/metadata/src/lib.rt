@@ -116,10 +116,7 @@ pub fn record_at(bytes: &[u8], at: usize) -> u32
     requires { at + 3 ≤ length bytes.now }
     ensures { NumberAt bytes.now at 3 result }
 {
-    let high = bytes[at] as u32;
-    let middle = bytes[at + 1] as u32;
-    let low = bytes[at + 2] as u32;
-    (high * 256 + middle) * 256 + low
+    u32::from_be_bytes([0, bytes[at], bytes[at + 1], bytes[at + 2]])
 }
 
 // The number that n bytes are.
@@ -139,12 +136,7 @@ fn steps_back(bytes: &[u8], at: usize, b: u8, f: usize) -> Option<usize>
     requires { (at < length bytes.now) × (f ≤ at) }
     ensures { MatchOption result (steps_back bytes.now at b f ≡ f) (λ i. (steps_back bytes.now at b f ≡ i) × (i < f)) }
 {
-    for i in 0..f {
-        if bytes[at - i] == b {
-            return Some(i);
-        }
-    }
-    None
+    (0..f).find(|i| bytes[at - *i] == b)
 }
 
 // The node count by a few byte tests from the end on, right for every image; not every byte is compared.

@@ -1,6 +1,8 @@
 // The library: each public call as C has it, one file for each group of calls. Such a function returns
 // the paper's number of the answer, 0 where accepted, and writes the answer's values into a lent array.
-// None has a `requires`. Crate nalfipode_c exports them.
+// None has a `requires`. Crate nalfipode_c exports them. Each is one match, which stays written out: a
+// function for all would take what is accepted and what is refused as two closures, its contract would
+// state what each of them gives, and every call would still write both.
 
 #![tactic(auto)]
 

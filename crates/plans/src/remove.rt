@@ -12,7 +12,8 @@ use prefix::{Key, Prefix};
 use records::Record;
 
 // Removes k, whose stored node the walk ended at. It reads that node and, where it has no side, the one
-// above; and the one that the rest is hung from.
+// above; and the one that the rest is hung from. The width stays a clause: the function is public, and asks its
+// callers no more than before.
 #[tactic(auto, using(crate::proofs::PartsLaws::node_on_taken), unfolding(crate::specs::Planning::plan_remove_on))]
 pub fn make_remove(table: &mut [u32], k: Prefix, s: Walk) -> Result<(), Unmade>
     requires { (16 ≤ length table.old) × (k.width ≤ 128) }

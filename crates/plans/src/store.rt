@@ -11,7 +11,8 @@ use lookup::{Met, Walk};
 use prefix::{Key, Prefix};
 
 // Stores k with its zone number, from where the walk ended. It reads the last node on the path that is a
-// prefix of k, the one that is none where k is shorter than it, and at most the first two spare records.
+// prefix of k, the one that is none where k is shorter than it, and at most the first two spare records. The width
+// stays a clause: the function is public, and asks its callers no more than before.
 #[tactic(auto, using(crate::proofs::PartsLaws::spare_on_taken), unfolding(crate::specs::Planning::plan_store_on))]
 pub fn make_store(table: &mut [u32], k: Prefix, zone: u32, s: Walk, e: Met) -> Result<(), Unmade>
     requires { (16 ≤ length table.old) × (k.width ≤ 128) }

@@ -40,7 +40,8 @@ pub fn valid(p: Prefix) -> bool
     p.width == 128
 }
 
-// Bit i of k, the first bit being bit 0.
+// Bit i of k, the first bit being bit 0. Here and in `begins`, `cut` and `meet` the width stays a clause: they are
+// public, and ask their callers no more than before.
 pub fn bit(k: Prefix, i: u32) -> bool
     requires { (k.width ≤ 128) × (i < k.width) }
     ensures { result ≡ get_or (string_of k) i false }
@@ -78,7 +79,8 @@ pub fn begins(k: Prefix, p: Prefix) -> bool
 }
 
 // The first n bits of a.
-// Stays in two ways: one for both halves, by `keep` of each, takes some 20 instructions more in a store.
+// Stays in two ways: one for both halves, by `keep` of each, takes some 20 instructions more in a store, which takes
+// 904 over 20,000 routes, and its bar is 910 (docs/BENCHMARKS.md).
 pub fn cut(a: Prefix, n: u32) -> Prefix
     requires { (a.width ≤ 128) × (n ≤ a.width) }
     ensures { Cut a n result }

@@ -45,7 +45,7 @@ pub const LONGEST: usize = 524_288;
 // The tag of a spare record, which no node has.
 pub const SPARE: u32 = 0xffff_ffff;
 
-// Some table has n words.
+// Some table has n words. Stays two comparisons: `sound` of listing says why.
 pub fn is_table(n: usize) -> bool
     ensures { result ≡ is_table n }
 {

@@ -43,7 +43,7 @@ impl Refusal {
         }
     }
 
-    // How many nodes' widths the trail holds.
+    // How many nodes' widths the trail holds: 0 where there is none, as the paper's counts are.
     pub fn nodes(self) -> usize
         ensures { result ≡ nodes_in self }
     {
@@ -53,7 +53,7 @@ impl Refusal {
         }
     }
 
-    // How long the output must be, where it is too short.
+    // How long the output must be, where it is too short: 0 where it is not, as the paper's counts are.
     pub fn needed(self) -> usize
         ensures { result ≡ needed_in self }
     {

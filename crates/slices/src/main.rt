@@ -117,10 +117,7 @@ fn slice(
     let mut out = [0u32; 24];
     let r = listing::slice(table, resume, size, &mut out);
     answered(rt, text, r)?;
-    let given = match r {
-        Ok(s) => s.given as usize,
-        Err(_) => 0,
-    };
+    let given = r.map_or(0, |s| s.given as usize);
     for e in out.chunks_exact(6).take(given) {
         println!(rt; "  {:08x}/{} -> {}", e[0], e[4], e[5])?;
     }
@@ -156,7 +153,8 @@ fn after(width: u32, w0: u32) -> Option<Prefix> {
     Some(of(width, w0))
 }
 
-// A key of at most 32 bits. Stays in each of four programs: a crate for one literal would be no plainer.
+// A key of at most 32 bits. Stays in each of four programs: a crate for what they share (a key of its
+// first word, a store that drops its answer) would have to be a library with contracts of its own.
 fn of(width: u32, w0: u32) -> Prefix {
     Prefix {
         width,

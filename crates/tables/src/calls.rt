@@ -1,7 +1,7 @@
 // One call, and a line: each makes the call, and prints its text and what it answers.
 ghost use Rattle.std.specs.Prelude.{◌≤◌};
 
-use crate::printing::{refused, trail};
+use crate::printing::told;
 use lookup::TRAIL;
 use prefix::Prefix;
 use std::io;
@@ -30,55 +30,35 @@ pub(crate) fn store(
 ) -> io::Result<()> {
     let mut bytes = [0; TRAIL];
     print!(rt; "store {text}: ")?;
-    match edits::store(table, k, zone, &mut bytes) {
-        Ok(x) => {
-            match x.value {
-                None => print!(rt; "added")?,
-                Some(z) => print!(rt; "replaced {z}")?,
-            }
-            trail(rt, x.nodes, &bytes)
-        }
-        Err(e) => refused(rt, e, &bytes),
-    }
+    let r = edits::store(table, k, zone, &mut bytes);
+    told(rt, r, &bytes, |old| match old {
+        None => print!(rt; "added"),
+        Some(z) => print!(rt; "replaced {z}"),
+    })
 }
 
 pub(crate) fn remove(rt: &impl Print, text: &str, table: &mut [u32], k: Prefix) -> io::Result<()> {
     let mut bytes = [0; TRAIL];
     print!(rt; "remove {text}: ")?;
-    match edits::remove(table, k, &mut bytes) {
-        Ok(x) => {
-            print!(rt; "removed {}", x.value)?;
-            trail(rt, x.nodes, &bytes)
-        }
-        Err(e) => refused(rt, e, &bytes),
-    }
+    let r = edits::remove(table, k, &mut bytes);
+    told(rt, r, &bytes, |zone| print!(rt; "removed {zone}"))
 }
 
 pub(crate) fn fetch(rt: &impl Print, text: &str, table: &[u32], k: Prefix) -> io::Result<()> {
     let mut bytes = [0; TRAIL];
     print!(rt; "fetch {text}: ")?;
-    match lookup::fetch(table, k, &mut bytes) {
-        Ok(x) => {
-            print!(rt; "{}", x.value)?;
-            trail(rt, x.nodes, &bytes)
-        }
-        Err(e) => refused(rt, e, &bytes),
-    }
+    let r = lookup::fetch(table, k, &mut bytes);
+    told(rt, r, &bytes, |zone| print!(rt; "{zone}"))
 }
 
 pub(crate) fn longest(rt: &impl Print, text: &str, table: &[u32], k: Prefix) -> io::Result<()> {
     let mut bytes = [0; TRAIL];
     print!(rt; "longest match of {text}: ")?;
-    match lookup::longest_match(table, k, &mut bytes) {
-        Ok(x) => {
-            match x.value {
-                None => print!(rt; "no match")?,
-                Some(m) => print!(rt; "{} at width {}", m.zone, m.width)?,
-            }
-            trail(rt, x.nodes, &bytes)
-        }
-        Err(e) => refused(rt, e, &bytes),
-    }
+    let r = lookup::longest_match(table, k, &mut bytes);
+    told(rt, r, &bytes, |found| match found {
+        None => print!(rt; "no match"),
+        Some(m) => print!(rt; "{} at width {}", m.zone, m.width),
+    })
 }
 
 // What fetch answers, by its name alone.

@@ -5,9 +5,10 @@
 #![tactic(auto)]
 
 mod calls; // one call, and a line
-mod printing; // trails, and refusals
+mod printing; // what a call answers, with its trail
 
 use calls::{answer, fetch, longest, made, remove, sized, store};
+use lookup::TRAIL;
 use prefix::Prefix;
 use std::io;
 
@@ -116,7 +117,7 @@ fn freed_room(rt: &impl Print) -> io::Result<()> {
 
 fn refusals(rt: &impl Print) -> io::Result<()> {
     let mut table = [0u32; 16];
-    let mut bytes = [0u8; 129];
+    let mut bytes = [0; TRAIL];
     made(rt, "c = 1", &mut table)?;
     refused(rt, &table)?;
     table[0] = 2;
@@ -126,8 +127,8 @@ fn refusals(rt: &impl Print) -> io::Result<()> {
 // Each call is wrong in one way less than the one before it.
 fn refused(rt: &impl Print, table: &[u32]) -> io::Result<()> {
     let short = [0u32; 15];
-    let mut few = [0u8; 128];
-    let mut bytes = [0u8; 129];
+    let mut few = [0; TRAIL - 1];
+    let mut bytes = [0; TRAIL];
     answer(
         rt,
         "15 words, a bad key, 128 bytes",
@@ -142,7 +143,8 @@ fn refused(rt: &impl Print, table: &[u32]) -> io::Result<()> {
 
 // ---- keys
 
-// A key of at most 32 bits. Stays in each of four programs: a crate for one literal would be no plainer.
+// A key of at most 32 bits. Stays in each of four programs: a crate for what they share (a key of its
+// first word, a store that drops its answer) would have to be a library with contracts of its own.
 fn of(width: u32, w0: u32) -> Prefix {
     Prefix {
         width,

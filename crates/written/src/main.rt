@@ -5,6 +5,8 @@
 
 #![tactic(auto)]
 
+ghost use Rattle.std.specs.Prelude.{◌≤◌};
+
 use lookup::TRAIL;
 use prefix::Prefix;
 use refusals::Refusal;
@@ -14,6 +16,9 @@ const TOP: u32 = 0x8000_0000;
 
 // What the output holds before the call.
 const BEFORE: u8 = 0xee;
+
+// Bytes of output, more than any of these images needs.
+const ROOM: usize = 1200;
 
 fn main(rt: HostRuntime) -> anyhow::Result<()> {
     example(&rt)?;
@@ -32,13 +37,14 @@ fn example(rt: &impl Print) -> anyhow::Result<()> {
     let table: &mut [u32] = &mut space;
     edits::fresh(table)?;
     store(table, of(1, 0), 5)?;
-    show(rt, "0 -> 5, epoch 0", table, 0)?;
-    show(rt, "0 -> 5, epoch 1", table, 1)?;
-    show(rt, "0 -> 5, epoch 255", table, 255)?;
-    show(rt, "0 -> 5, epoch 256", table, 256)?;
-    show(rt, "0 -> 5, epoch 2^64 - 1", table, 0xffff_ffff_ffff_ffff)?;
-    short(rt, table)?;
-    exact(rt, table)?;
+    show::<ROOM>(rt, "0 -> 5, epoch 0", table, 0)?;
+    show::<ROOM>(rt, "0 -> 5, epoch 1", table, 1)?;
+    show::<ROOM>(rt, "0 -> 5, epoch 255", table, 255)?;
+    show::<ROOM>(rt, "0 -> 5, epoch 256", table, 256)?;
+    show::<ROOM>(rt, "0 -> 5, epoch 2^64 - 1", table, 0xffff_ffff_ffff_ffff)?;
+    // one byte less than it needs, and as many
+    show::<178>(rt, "178 bytes of output", table, 0)?;
+    show::<179>(rt, "179 bytes of output", table, 0)?;
     Ok(())
 }
 
@@ -47,9 +53,9 @@ fn empty(rt: &impl Print) -> anyhow::Result<()> {
     let mut space = [0u32; 16];
     let table: &mut [u32] = &mut space;
     edits::fresh(table)?;
-    show(rt, "the empty set", table, 0)?;
+    show::<ROOM>(rt, "the empty set", table, 0)?;
     store(table, of(0, 0), 7)?;
-    show(rt, "the empty prefix -> 7", table, 0)?;
+    show::<ROOM>(rt, "the empty prefix -> 7", table, 0)?;
     Ok(())
 }
 
@@ -60,9 +66,9 @@ fn hidden(rt: &impl Print) -> anyhow::Result<()> {
     edits::fresh(table)?;
     store(table, of(0, 0), 7)?;
     store(table, of(1, 0), 5)?;
-    show(rt, "7 over 0", table, 0)?;
+    show::<ROOM>(rt, "7 over 0", table, 0)?;
     store(table, of(1, TOP), 6)?;
-    show(rt, "7 hidden by 0 and 1", table, 0)?;
+    show::<ROOM>(rt, "7 hidden by 0 and 1", table, 0)?;
     Ok(())
 }
 
@@ -73,7 +79,7 @@ fn halves(rt: &impl Print) -> anyhow::Result<()> {
     edits::fresh(table)?;
     store(table, of(2, 0), 9)?;
     store(table, of(2, TOP / 2), 9)?;
-    show(rt, "equal halves", table, 0)?;
+    show::<ROOM>(rt, "equal halves", table, 0)?;
     Ok(())
 }
 
@@ -93,7 +99,7 @@ fn widths(rt: &impl Print) -> anyhow::Result<()> {
         },
         1,
     )?;
-    show(rt, "widths 0 and 128", table, 0)?;
+    show::<ROOM>(rt, "widths 0 and 128", table, 0)?;
     Ok(())
 }
 
@@ -110,20 +116,20 @@ fn numbers(rt: &impl Print) -> anyhow::Result<()> {
     store(table, of(3, 0xa000_0000), 0x0100_0000)?;
     store(table, of(3, 0xc000_0000), 65_535)?;
     store(table, of(3, 0xe000_0000), 255)?;
-    show(rt, "zone numbers at the edges", table, 1_700_000_000)?;
+    show::<ROOM>(rt, "zone numbers at the edges", table, 1_700_000_000)?;
     Ok(())
 }
 
 fn refusals(rt: &impl Print) -> anyhow::Result<()> {
     let mut fifteen = [0u32; 15];
-    show(rt, "15 words", &fifteen, 0)?;
+    show::<ROOM>(rt, "15 words", &fifteen, 0)?;
     fifteen[0] = 1;
     let mut space = [0u32; 24];
     edits::fresh(&mut space)?;
     store(&mut space, of(1, 0), 5)?;
     // the record in use says that it has a left side
     space[13] = 1;
-    show(rt, "a node under itself", &space, 0)?;
+    show::<ROOM>(rt, "a node under itself", &space, 0)?;
     Ok(())
 }
 
@@ -134,44 +140,26 @@ fn store(table: &mut [u32], k: Prefix, zone: u32) -> Result<(), Refusal> {
     Ok(())
 }
 
-// Writes the table's image into 1,200 bytes.
-fn show(rt: &impl Print, text: &str, table: &[u32], epoch: u64) -> io::Result<()> {
-    let mut out = [BEFORE; 1200];
-    write(rt, text, table, epoch, &mut out)
-}
-
-// One byte less than the paper's example needs.
-fn short(rt: &impl Print, table: &[u32]) -> io::Result<()> {
-    let mut out = [BEFORE; 178];
-    write(rt, "178 bytes of output", table, 0, &mut out)
-}
-
-fn exact(rt: &impl Print, table: &[u32]) -> io::Result<()> {
-    let mut out = [BEFORE; 179];
-    write(rt, "179 bytes of output", table, 0, &mut out)
-}
-
-// One case: its name, what the call answers, and what the output then holds.
-fn write(rt: &impl Print, text: &str, table: &[u32], epoch: u64, out: &mut [u8]) -> io::Result<()> {
-    print!(rt; "{text}")?;
-    let r = image_write::write(table, epoch, out);
-    told(rt, r, out)
-}
-
-// The answer, whether the bytes that are not the image's are as they were, and the image.
-fn told(rt: &impl Print, r: Result<usize, Refusal>, out: &[u8]) -> io::Result<()> {
-    match r {
+// One case, on an output of N bytes: its name, what the call answers, whether the bytes that are not
+// the image's are as they were, and the image.
+fn show<const N: usize>(rt: &impl Print, text: &str, table: &[u32], epoch: u64) -> io::Result<()>
+    requires { N ≤ 1000000 }
+{
+    let mut out = [BEFORE; N];
+    print!(rt; "{text}: ")?;
+    match image_write::write(table, epoch, &mut out) {
         Ok(n) => {
-            print!(rt; ": wrote {n}")?;
-            left(rt, n, out)?;
-            dump(rt, n, out)
+            let (image, rest) = out.split_at(n.min(out.len()));
+            print!(rt; "wrote {n}")?;
+            left(rt, rest)?;
+            dump(rt, image)
         }
         Err(e) => {
-            print!(rt; ": {e}")?;
+            print!(rt; "{e}")?;
             if let Refusal::ShortOut(n) = e {
                 print!(rt; ", needs {n}")?;
             }
-            left(rt, 0, out)?;
+            left(rt, &out)?;
             println!(rt)
         }
     }
@@ -179,28 +167,28 @@ fn told(rt: &impl Print, r: Result<usize, Refusal>, out: &[u8]) -> io::Result<()
 
 // ---- printing
 
-// Whether the bytes from the n-th on are as they were before the call.
-fn left(rt: &impl Print, n: usize, out: &[u8]) -> io::Result<()> {
-    let kept = out.iter().skip(n).all(|b| *b == BEFORE);
-    rt.print(if kept {
+// Whether the bytes are as they were before the call.
+fn left(rt: &impl Print, rest: &[u8]) -> io::Result<()> {
+    rt.print(if rest.iter().all(|b| *b == BEFORE) {
         ", the rest as it was"
     } else {
         ", and the rest changed"
     })
 }
 
-// The first n bytes, in hex, 32 to a line.
-fn dump(rt: &impl Print, n: usize, out: &[u8]) -> io::Result<()> {
-    for (i, b) in out.iter().take(n).enumerate() {
-        if i % 32 == 0 {
-            print!(rt; "\n ")?;
+// The bytes, in hex, 32 to a line.
+fn dump(rt: &impl Print, image: &[u8]) -> io::Result<()> {
+    for line in image.chunks(32) {
+        print!(rt; "\n ")?;
+        for b in line {
+            print!(rt; " {b:02x}")?;
         }
-        print!(rt; " {b:02x}")?;
     }
     println!(rt)
 }
 
-// A key of at most 32 bits. Stays in each of four programs: a crate for one literal would be no plainer.
+// A key of at most 32 bits. Stays in each of four programs: a crate for what they share (a key of its
+// first word, a store that drops its answer) would have to be a library with contracts of its own.
 fn of(width: u32, w0: u32) -> Prefix {
     Prefix {
         width,

@@ -23,7 +23,7 @@ returns-in-Err-Damaged c =
 pub copy_first-requires : goal.copy_first-requires
 copy_first-requires c =
     let b = survey_on-bounds _ _ _ _ _ _ _ c.survey.ensures c.in_ok-p.was in
-    (b.few, search rules, b.long)
+    (b.few, search rules)
 
 pub returns : goal.returns
 returns c =

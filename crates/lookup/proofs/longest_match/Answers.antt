@@ -31,7 +31,7 @@ pub copy_first-requires : goal.copy_first-requires
 copy_first-requires c =
     let a = refuse_on-accepts _ _ _ (sym c.refuse.ensures ∙ c.in_ok-refuse.was) in
     let few = walked_few _ _ _ _ _ _ c.walk_path.ensures _ c.in_ok-x.was in
-    (omega arith, omega (arith, a.ample), c.walk_path.array_long)
+    (omega arith, omega (arith, a.ample))
 
 pub returns : goal.returns
 returns c =
