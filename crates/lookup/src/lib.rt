@@ -63,9 +63,7 @@ pub struct Match {
 }
 
 // The longest stored prefix of k, or none. An answer writes the trail as `fetch` does, and a refusal leaves it:
-// so the widths go to a local array first, since a Damaged call leaves the trail alone. In line in both reads, where its
-// answer then takes no memory.
-#[inline(always)]
+// so the widths go to a local array first, since a Damaged call leaves the trail alone.
 pub fn longest_match(
     table: &[u32],
     k: Prefix,
