@@ -2,14 +2,15 @@
 -- No contract cites this file.
 -- Assumes nothing.
 use Prim.Native.Nat.{ℕ}
+use native.Mathlib.Omega.{arith}
 use mathlib.Core.Path.{◌≡◌, refl, ap, ◌∙◌}
 use mathlib.Core.Bool.{Bool, true, false}
 use mathlib.Core.List.{List}
 use mathlib.Core.Option.{Option}
 use Rattle.std.specs.Prelude.{Result, Ok, Err}
-use Rattle.refusals.specs.Refusals.{number, number_of}
+use Rattle.refusals.specs.Refusals.{number_of}
 use Rattle.refusals.specs.declared.Refusal.{Refusal}
-use Rattle.refusals.specs.declared.Refusal.TheVariants.{BadLength, BadPrefix, BadPosition, BadSize, ShortOut, Damaged, Absent, Full, BadImage}
+use Rattle.refusals.proofs.RefusalsLaws.{number_pos}
 use Rattle.zones.specs.Maps.{Map}
 use Rattle.records.specs.Holds.{Holds}
 use Rattle.records.proofs.HoldsLaws.{overflows-replaced}
@@ -33,21 +34,10 @@ tells_same number_of values_of n v e = (n ∙ ap number_of e, v ∙ ap values_of
 
 -- ---- number_of
 
--- no refusal has the number of none
-number_some : (e : Refusal) → number e ≡ 0 → ⊥
-number_some BadLength h = cc
-number_some BadPrefix h = cc
-number_some BadPosition h = cc
-number_some BadSize h = cc
-number_some (ShortOut n) h = cc
-number_some Damaged h = cc
-number_some (Absent n) h = cc
-number_some (Full n) h = cc
-number_some BadImage h = cc
-
+-- what has the number of none is accepted
 pub refused_no : (x : Result (Unit {0}) Refusal) → number_of x ≡ 0 → x ≡ Ok tt
 refused_no (Ok u) h = refl
-refused_no (Err e) h = absurd (number_some e h)
+refused_no (Err e) h = absurd (omega (arith, h, number_pos e))
 
 -- ---- Answers
 

@@ -2,6 +2,7 @@
 -- No contract cites this file.
 -- Assumes nothing.
 use Prim.Native.Nat.{ℕ, zero, suc, ◌+◌, ◌/◌, ◌≤◌}
+use native.Mathlib.Omega.{arith}
 use mathlib.Core.Path.{◌≡◌, refl, subst, ◌∙◌}
 use mathlib.Core.Bool.{Bool, true, false, cond}
 use mathlib.Core.List.{List, [], ◌∷◌}
@@ -9,7 +10,7 @@ use lib.Dec.{ltb, eqb}
 use lib.ListN.{length, set}
 use borrow.Author.Tests.{ltb-false}
 use Rattle.refusals.specs.Refusals.{number, number_of, nodes_in, OneOf, GivenExactly}
-use Rattle.refusals.proofs.RefusalsLaws.{exactly-walk}
+use Rattle.refusals.proofs.RefusalsLaws.{number_pos, exactly-walk}
 use Rattle.prefix.specs.Keys.{is_valid}
 use Rattle.prefix.specs.declared.Prefix.{Prefix}
 use Rattle.prefix.proofs.KeysLaws.{is_valid_true}
@@ -142,18 +143,6 @@ walk_on-walks (suc f) ws k n ts s = at (step_on ws k s) (step_on-steps ws k s) (
     at (Ok End) h go = tt
     at (Err e) h go = h
 
--- every refusal has a number
-number_some : (e : Refusal) → number e ≡ 0 → ⊥
-number_some BadLength h = cc
-number_some BadPrefix h = cc
-number_some BadPosition h = cc
-number_some BadSize h = cc
-number_some (ShortOut n) h = cc
-number_some Damaged h = cc
-number_some (Absent n) h = cc
-number_some (Full n) h = cc
-number_some BadImage h = cc
-
 module _ (ws : List ℕ) (k : Prefix) (room : ℕ) (ts : List ℕ) where
   survey_on_exactly : GivenExactly (first_refusal ws k room) (0 ∷ 6 ∷ []) (number_of (survey_on ws k room ts).out)
   unfolding first_refusal walk_from
@@ -176,7 +165,7 @@ module _ (ws : List ℕ) (k : Prefix) (room : ℕ) (ts : List ℕ) where
 
       at : (x : Result Path Refusal) → number_of x ≡ 0 → OneOf rest (num x)
       at (Ok p) h = done p
-      at (Err e) h = absurd (number_some e h)
+      at (Err e) h = absurd (omega (arith, h, number_pos e))
 
 -- ---- leaves_all
 

@@ -1,5 +1,5 @@
--- The laws of reading the end of an image: a law for each turn of the loops that go back to a key and that
--- compare bytes, and for each way out of `count` and `frame`. No contract cites this file.
+-- The laws of reading the end of an image: of going back to a key, and of the ways out of `count` and `frame`. No
+-- contract cites this file.
 -- Assumes nothing.
 use Prim.Native.Nat.{ℕ, zero, suc, ◌+◌, ◌-◌, ◌^◌, ◌≤◌, ◌<◌}
 use native.Mathlib.Nat.{sub-zero, lt_of_lt_of_le, pow-le-pow_right}
