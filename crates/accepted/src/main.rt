@@ -12,17 +12,17 @@ use std::io;
 
 const TOP: u32 = 0x8000_0000;
 
-fn main(rt: HostRuntime) -> anyhow::Result<()> {
+fn main(rt: HostRuntime) -> io::Result<()> {
     example(&rt)?;
     set_a(&rt)?;
     Ok(())
 }
 
 // "one prefix, bit 0, zone 5, epoch 0"
-fn example(rt: &impl Print) -> anyhow::Result<()> {
+fn example(rt: &impl Print) -> io::Result<()> {
     let mut space = [0u32; 16];
     let table: &mut [u32] = &mut space;
-    edits::fresh(table)?;
+    edits::fresh(table).map_err(refused)?;
     store(table, of(1, 0), 5)?;
     println!(rt; "0 -> 5, epoch 0")?;
     tried(rt, table, 0)?;
@@ -30,10 +30,10 @@ fn example(rt: &impl Print) -> anyhow::Result<()> {
 }
 
 // 00 -> 10, 01 -> 20, 0110 -> 30
-fn set_a(rt: &impl Print) -> anyhow::Result<()> {
+fn set_a(rt: &impl Print) -> io::Result<()> {
     let mut space = [0u32; 72];
     let table: &mut [u32] = &mut space;
-    edits::fresh(table)?;
+    edits::fresh(table).map_err(refused)?;
     store(table, of(2, 0), 10)?;
     store(table, of(2, TOP / 2), 20)?;
     store(table, of(4, 0x6000_0000), 30)?;
@@ -139,9 +139,14 @@ fn verdict(rt: &impl Print, text: &str, bytes: &[u8]) -> io::Result<()> {
     }
 }
 
-fn store(table: &mut [u32], k: Prefix, zone: u32) -> Result<(), Refusal> {
-    edits::store(table, k, zone, &mut [0; TRAIL])?;
+fn store(table: &mut [u32], k: Prefix, zone: u32) -> io::Result<()> {
+    edits::store(table, k, zone, &mut [0; TRAIL]).map_err(refused)?;
     Ok(())
+}
+
+// A refusal where a case wants none.
+fn refused(_e: Refusal) -> io::Error {
+    io::Error::other("a case's table is refused")
 }
 
 // A key of at most 32 bits. Stays in each of four programs: a crate for what they share (a key of its

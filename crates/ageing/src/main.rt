@@ -29,16 +29,21 @@ struct Tally {
     other: u32,
 }
 
-fn main(rt: HostRuntime) -> anyhow::Result<()> {
+fn main(rt: HostRuntime) -> io::Result<()> {
     let mut old = [0u32; WORDS];
     let mut new = [0u32; WORDS];
-    edits::fresh(&mut old)?;
-    edits::fresh(&mut new)?;
+    edits::fresh(&mut old).map_err(refused)?;
+    edits::fresh(&mut new).map_err(refused)?;
     report(&rt, age(&mut old))?;
-    println!(rt; "stored now: {}", rebuild(&old, &mut new)?)?;
+    println!(rt; "stored now: {}", rebuild(&old, &mut new).map_err(refused)?)?;
     println!(rt; "paths compared: 255")?;
     println!(rt; "paths that are equal: {}", compare(&old, &new))?;
     Ok(())
+}
+
+// A refusal where a case wants none.
+fn refused(_e: Refusal) -> io::Error {
+    io::Error::other("a case's table is refused")
 }
 
 fn report(rt: &impl Print, t: Tally) -> io::Result<()> {

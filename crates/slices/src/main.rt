@@ -12,7 +12,7 @@ use std::io;
 
 const TOP: u32 = 0x8000_0000;
 
-fn main(rt: HostRuntime) -> anyhow::Result<()> {
+fn main(rt: HostRuntime) -> io::Result<()> {
     let mut table = [0u32; 72];
     set_a(&mut table)?;
     m9(&rt, &table)?;
@@ -24,8 +24,8 @@ fn main(rt: HostRuntime) -> anyhow::Result<()> {
 }
 
 // 00 -> 10, 01 -> 20, 0110 -> 30
-fn set_a(table: &mut [u32]) -> Result<(), Refusal> {
-    edits::fresh(table)?;
+fn set_a(table: &mut [u32]) -> io::Result<()> {
+    edits::fresh(table).map_err(refused)?;
     store(table, of(2, 0), 10)?;
     store(table, of(2, TOP / 2), 20)?;
     store(table, of(4, 0x6000_0000), 30)?;
@@ -81,7 +81,7 @@ fn widest(rt: &impl Print, table: &[u32]) -> io::Result<()> {
 }
 
 // Slices of 1 over a table whose prefixes are removed and added between them.
-fn changing(rt: &impl Print, table: &mut [u32]) -> anyhow::Result<()> {
+fn changing(rt: &impl Print, table: &mut [u32]) -> io::Result<()> {
     slice(rt, "1 from the start", table, None, 1)?;
     remove(table, of(2, 0))?;
     store(table, of(2, TOP), 40)?;
@@ -137,14 +137,19 @@ fn answered(rt: &impl Print, text: &str, r: Result<Sliced, Refusal>) -> io::Resu
     }
 }
 
-fn store(table: &mut [u32], k: Prefix, zone: u32) -> Result<(), Refusal> {
-    edits::store(table, k, zone, &mut [0; TRAIL])?;
+fn store(table: &mut [u32], k: Prefix, zone: u32) -> io::Result<()> {
+    edits::store(table, k, zone, &mut [0; TRAIL]).map_err(refused)?;
     Ok(())
 }
 
-fn remove(table: &mut [u32], k: Prefix) -> Result<(), Refusal> {
-    edits::remove(table, k, &mut [0; TRAIL])?;
+fn remove(table: &mut [u32], k: Prefix) -> io::Result<()> {
+    edits::remove(table, k, &mut [0; TRAIL]).map_err(refused)?;
     Ok(())
+}
+
+// A refusal where a case wants none.
+fn refused(_e: Refusal) -> io::Error {
+    io::Error::other("a case's table is refused")
 }
 
 // ---- keys

@@ -20,7 +20,7 @@ const BEFORE: u8 = 0xee;
 // Bytes of output, more than any of these images needs.
 const ROOM: usize = 1200;
 
-fn main(rt: HostRuntime) -> anyhow::Result<()> {
+fn main(rt: HostRuntime) -> io::Result<()> {
     example(&rt)?;
     empty(&rt)?;
     hidden(&rt)?;
@@ -32,10 +32,10 @@ fn main(rt: HostRuntime) -> anyhow::Result<()> {
 }
 
 // "one prefix, bit 0, zone 5"
-fn example(rt: &impl Print) -> anyhow::Result<()> {
+fn example(rt: &impl Print) -> io::Result<()> {
     let mut space = [0u32; 16];
     let table: &mut [u32] = &mut space;
-    edits::fresh(table)?;
+    edits::fresh(table).map_err(refused)?;
     store(table, of(1, 0), 5)?;
     show::<ROOM>(rt, "0 -> 5, epoch 0", table, 0)?;
     show::<ROOM>(rt, "0 -> 5, epoch 1", table, 1)?;
@@ -49,10 +49,10 @@ fn example(rt: &impl Print) -> anyhow::Result<()> {
 }
 
 // "The empty set: N = 1, both records 1, no data section."
-fn empty(rt: &impl Print) -> anyhow::Result<()> {
+fn empty(rt: &impl Print) -> io::Result<()> {
     let mut space = [0u32; 16];
     let table: &mut [u32] = &mut space;
-    edits::fresh(table)?;
+    edits::fresh(table).map_err(refused)?;
     show::<ROOM>(rt, "the empty set", table, 0)?;
     store(table, of(0, 0), 7)?;
     show::<ROOM>(rt, "the empty prefix -> 7", table, 0)?;
@@ -60,10 +60,10 @@ fn empty(rt: &impl Print) -> anyhow::Result<()> {
 }
 
 // A number that is stored and that no record uses.
-fn hidden(rt: &impl Print) -> anyhow::Result<()> {
+fn hidden(rt: &impl Print) -> io::Result<()> {
     let mut space = [0u32; 32];
     let table: &mut [u32] = &mut space;
-    edits::fresh(table)?;
+    edits::fresh(table).map_err(refused)?;
     store(table, of(0, 0), 7)?;
     store(table, of(1, 0), 5)?;
     show::<ROOM>(rt, "7 over 0", table, 0)?;
@@ -73,20 +73,20 @@ fn hidden(rt: &impl Print) -> anyhow::Result<()> {
 }
 
 // "Equal halves are not merged."
-fn halves(rt: &impl Print) -> anyhow::Result<()> {
+fn halves(rt: &impl Print) -> io::Result<()> {
     let mut space = [0u32; 32];
     let table: &mut [u32] = &mut space;
-    edits::fresh(table)?;
+    edits::fresh(table).map_err(refused)?;
     store(table, of(2, 0), 9)?;
     store(table, of(2, TOP / 2), 9)?;
     show::<ROOM>(rt, "equal halves", table, 0)?;
     Ok(())
 }
 
-fn widths(rt: &impl Print) -> anyhow::Result<()> {
+fn widths(rt: &impl Print) -> io::Result<()> {
     let mut space = [0u32; 32];
     let table: &mut [u32] = &mut space;
-    edits::fresh(table)?;
+    edits::fresh(table).map_err(refused)?;
     store(table, of(0, 0), 300)?;
     store(
         table,
@@ -104,10 +104,10 @@ fn widths(rt: &impl Print) -> anyhow::Result<()> {
 }
 
 // Zone numbers of 0 to 4 bytes, each side of the edges.
-fn numbers(rt: &impl Print) -> anyhow::Result<()> {
+fn numbers(rt: &impl Print) -> io::Result<()> {
     let mut space = [0u32; 136];
     let table: &mut [u32] = &mut space;
-    edits::fresh(table)?;
+    edits::fresh(table).map_err(refused)?;
     store(table, of(3, 0), 0xffff_ffff)?;
     store(table, of(3, 0x2000_0000), 256)?;
     store(table, of(3, 0x4000_0000), 0)?;
@@ -120,12 +120,12 @@ fn numbers(rt: &impl Print) -> anyhow::Result<()> {
     Ok(())
 }
 
-fn refusals(rt: &impl Print) -> anyhow::Result<()> {
+fn refusals(rt: &impl Print) -> io::Result<()> {
     let mut fifteen = [0u32; 15];
     show::<ROOM>(rt, "15 words", &fifteen, 0)?;
     fifteen[0] = 1;
     let mut space = [0u32; 24];
-    edits::fresh(&mut space)?;
+    edits::fresh(&mut space).map_err(refused)?;
     store(&mut space, of(1, 0), 5)?;
     // the record in use says that it has a left side
     space[13] = 1;
@@ -135,9 +135,14 @@ fn refusals(rt: &impl Print) -> anyhow::Result<()> {
 
 // ---- the calls
 
-fn store(table: &mut [u32], k: Prefix, zone: u32) -> Result<(), Refusal> {
-    edits::store(table, k, zone, &mut [0; TRAIL])?;
+fn store(table: &mut [u32], k: Prefix, zone: u32) -> io::Result<()> {
+    edits::store(table, k, zone, &mut [0; TRAIL]).map_err(refused)?;
     Ok(())
+}
+
+// A refusal where a case wants none.
+fn refused(_e: Refusal) -> io::Error {
+    io::Error::other("a case's table is refused")
 }
 
 // One case, on an output of N bytes: its name, what the call answers, whether the bytes that are not
