@@ -26,7 +26,9 @@ use Rattle.lookup.specs.declared.Path.{Path}
 use Rattle.refusals.specs.Refusals.{nodes_in}
 use Rattle.refusals.specs.declared.Refusal.{Refusal}
 use Rattle.refusals.specs.declared.Refusal.TheVariants.{Damaged}
-use Rattle.std.specs.Prelude.{Result, Ok, Err}
+use Rattle.std.specs.Prelude.{Result, Ok, Err, Some, None}
+use Rattle.std.specs.Result.{result_ok}
+use Rattle.std.proofs.lemmas.Option.{none-some, same_Some}
 
 -- ---- shared_on
 
@@ -36,12 +38,12 @@ shared_on_most r k h = omega (arith, length-lcp (string_of (key_of r)) (string_o
 
 -- ---- step_on
 
--- what a step shows of widths: a node is wider than those before it, and at most 128 wide; and a refusal has no nodes
+-- what a step shows of widths: a node is wider than those before it, and at most 128 wide; and it is refused as Damaged alone
 abbrev pub Grows : Walk → Result Step Refusal → Type 0
 Grows s (Ok (Down w d)) = (s.low ≤ w) × (w ≤ 128) × (d.low ≡ w + 1)
 Grows s (Ok (Last w b)) = (s.low ≤ w) × (w ≤ 128)
 Grows s (Ok End) = Unit {0}
-Grows s (Err e) = nodes_in e ≡ 0
+Grows s (Err e) = e ≡ Damaged
 
 seen_on-grows : (r : Record) (k : Prefix) (s : Walk) → Grows s (seen_on r k s)
 unfolding seen_on down_on
@@ -68,6 +70,20 @@ step_on-grows ws k s = at (eqb s.next 0) (room_of (length ws) s.next)
 
 pub step_on_grown : (ws : List ℕ) (k : Prefix) (s : Walk) (x y : Result Step Refusal) → x ≡ step_on ws k s → x ≡ y → Grows s y
 step_on_grown ws k s x y e q = subst (Grows s) (sym e ∙ q) (step_on-grows ws k s)
+
+pub step_on_given : (ws : List ℕ) (k : Prefix) (s : Walk) (y : Step) → result_ok (step_on ws k s) ≡ Some y → step_on ws k s ≡ Ok y
+step_on_given ws k s y h = at (step_on ws k s) h
+  where
+    at : (x : Result Step Refusal) → result_ok x ≡ Some y → x ≡ Ok y
+    at (Ok x) q = ap Ok (same_Some x y q)
+    at (Err e) q = absurd (none-some y q)
+
+pub step_on-refused : (ws : List ℕ) (k : Prefix) (s : Walk) → result_ok (step_on ws k s) ≡ None → step_on ws k s ≡ Err Damaged
+step_on-refused ws k s h = at (step_on ws k s) (step_on-grows ws k s) h
+  where
+    at : (x : Result Step Refusal) → Grows s x → result_ok x ≡ None → x ≡ Err Damaged
+    at (Ok x) g q = absurd (none-some x (sym q))
+    at (Err e) g q = ap Err g
 
 -- ---- walk_on, where a walk that has the value v goes on after n nodes, and its step is x
 
@@ -107,7 +123,7 @@ module _ (n : ℕ) (ts : List ℕ) (s : Walk) (go : ℕ → Walk → Survey) whe
   after_on_short (Ok (Down w d)) g h l rec = rec w d (omega arith) (omega arith)
   after_on_short (Ok (Last w b)) g h l rec = omega arith
   after_on_short (Ok End) g h l rec = omega arith
-  after_on_short (Err e) g h l rec = g
+  after_on_short (Err e) g h l rec = ap nodes_in g
 
   length-after_on : (x : Result Step Refusal) → ((w : ℕ) (d : Walk) → length (go w d).widths ≡ length ts) → length (after_on x n ts s go).widths ≡ length ts
   unfolding after_on

@@ -3,54 +3,60 @@
 -- bits lack.
 -- Assumes nothing.
 use native.Mathlib.Omega.{arith}
-use mathlib.Core.Path.{◌≡◌, ap, ◌∙◌}
-use Rattle.std.specs.Prelude.{Ok, Err}
-use borrow.Author.Rules.{rules}
+use mathlib.Core.Path.{◌≡◌, refl, sym, ap, ◌∙◌}
+use Rattle.std.specs.Prelude.{Ok, Some}
+use Rattle.lookup.specs.Walking.{step_on}
 use Rattle.lookup.specs.declared.Step.TheVariants.{Down, Last}
-use Rattle.lookup.proofs.WalkingLaws.{Grows, step_on_grown, walk_on_down, walk_on-last, walk_on_end, walk_on-bad}
+use Rattle.lookup.proofs.WalkingLaws.{Grows, step_on_grown, step_on_given, step_on-refused, walk_on_down, walk_on-last, walk_on_end, walk_on-bad}
 use Rattle.lookup.proofs.steps.walk_on.Goals as goal
-use Rattle.lookup.proofs.steps.walk_on.Goals.{In-Down, In-Last}
+use Rattle.lookup.proofs.steps.walk_on.Goals.{In-Some-Down, In-Some-Last}
 
-down-grows : (c : In-Down)
-    → Grows c.loop-w.s (Ok (Down c.in-Down.w c.in-Down.d))
-down-grows c = step_on_grown _ _ _ _ _ c.step_at.ensures (c.in_ok-w.was ∙ ap Ok c.in-Down.is)
+down : (c : In-Some-Down) → step_on c.args.table.now c.args.k.prefix c.loop-w.s ≡ Ok (Down c.in-Some-Down.w c.in-Some-Down.d)
+down c = step_on_given _ _ _ _ (sym c.step_at.ensures ∙ c.in-Some-Down.is ∙ ap Some c.in-Some-Down.field-0-is)
 
-last-grows : (c : In-Last)
-    → Grows c.loop-w.s (Ok (Last c.in-Last.w c.in-Last.b))
-last-grows c = step_on_grown _ _ _ _ _ c.step_at.ensures (c.in_ok-w.was ∙ ap Ok c.in-Last.is)
+last : (c : In-Some-Last) → step_on c.args.table.now c.args.k.prefix c.loop-w.s ≡ Ok (Last c.in-Some-Last.w c.in-Some-Last.b)
+last c = step_on_given _ _ _ _ (sym c.step_at.ensures ∙ c.in-Some-Last.is ∙ ap Some c.in-Some-Last.field-0-is)
+
+down-grows : (c : In-Some-Down)
+    → Grows c.loop-w.s (Ok (Down c.in-Some-Down.w c.in-Some-Down.d))
+down-grows c = step_on_grown _ _ _ _ _ refl (down c)
+
+last-grows : (c : In-Some-Last)
+    → Grows c.loop-w.s (Ok (Last c.in-Some-Last.w c.in-Some-Last.b))
+last-grows c = step_on_grown _ _ _ _ _ refl (last c)
 
 pub loop-w-preserved : goal.loop-w-preserved
 loop-w-preserved c =
-    let g = down-grows (goal.at.loop-w-preserved c).In-Down in (
+    let here = (goal.at.loop-w-preserved c).In-Some-Down in
+    let g = down-grows here in (
       omega arith,
       omega arith,
-      walk_on_down _ _ _ _ _ _ _ c.step_at.ensures c.loop-w.invariant.2 (omega arith) _ _ (c.in_ok-w.was ∙ ap Ok c.in-Down.is),
+      walk_on_down _ _ _ _ _ _ _ refl c.loop-w.invariant.2 (omega arith) _ _ (down here),
     )
 
-pub returns-in_err-w : goal.returns-in_err-w
-returns-in_err-w c =
-    let e : c.from_residual.result ≡ Err c.in_err-w.field-0.0 = search rules in
-    rw e (walk_on-bad _ _ _ _ _ _ _ c.step_at.ensures c.loop-w.invariant.2 (omega arith) _ c.in_err-w.was)
+pub returns-in-None : goal.returns-in-None
+returns-in-None c =
+    walk_on-bad _ _ _ _ _ _ _ refl c.loop-w.invariant.2 (omega arith) _ (step_on-refused _ _ _ (sym c.step_at.ensures ∙ c.in-None.is))
 
-pub returns-in-Last : goal.returns-in-Last
-returns-in-Last c =
-    walk_on-last _ _ _ _ _ _ _ c.step_at.ensures c.loop-w.invariant.2 (omega arith) _ _ (c.in_ok-w.was ∙ ap Ok c.in-Last.is)
+pub returns-in-Some-Last : goal.returns-in-Some-Last
+returns-in-Some-Last c =
+    walk_on-last _ _ _ _ _ _ _ refl c.loop-w.invariant.2 (omega arith) _ _ (last (goal.at.returns-in-Some-Last c).In-Some-Last)
 
-pub returns-in-End : goal.returns-in-End
-returns-in-End c =
-    walk_on_end _ _ _ _ _ _ _ c.step_at.ensures c.loop-w.invariant.2 (omega arith) (c.in_ok-w.was ∙ ap Ok c.in-End.is)
+pub returns-in-Some-End : goal.returns-in-Some-End
+returns-in-Some-End c =
+    walk_on_end _ _ _ _ _ _ _ refl c.loop-w.invariant.2 (omega arith) (step_on_given _ _ _ _ (sym c.step_at.ensures ∙ c.in-Some-End.is ∙ ap Some c.in-Some-End.field-0-is))
 
 pub overflow_cast-widths : goal.overflow_cast-widths
-overflow_cast-widths c = omega (arith, down-grows (goal.at.overflow_cast-widths c).In-Down)
+overflow_cast-widths c = omega (arith, down-grows (goal.at.overflow_cast-widths c).In-Some-Down)
 
 pub bounds-widths-n : goal.bounds-widths-n
-bounds-widths-n c = omega (arith, down-grows (goal.at.bounds-widths-n c).In-Down)
+bounds-widths-n c = omega (arith, down-grows (goal.at.bounds-widths-n c).In-Some-Down)
 
 pub loop-w-smaller : goal.loop-w-smaller
-loop-w-smaller c = omega (arith, down-grows (goal.at.loop-w-smaller c).In-Down)
+loop-w-smaller c = omega (arith, down-grows (goal.at.loop-w-smaller c).In-Some-Down)
 
-pub overflow_cast-widths-in-Last : goal.overflow_cast-widths-in-Last
-overflow_cast-widths-in-Last c = omega (arith, last-grows (goal.at.overflow_cast-widths-in-Last c).In-Last)
+pub overflow_cast-widths-in-Some-Last : goal.overflow_cast-widths-in-Some-Last
+overflow_cast-widths-in-Some-Last c = omega (arith, last-grows (goal.at.overflow_cast-widths-in-Some-Last c).In-Some-Last)
 
-pub bounds-widths-n-in-Last : goal.bounds-widths-n-in-Last
-bounds-widths-n-in-Last c = omega (arith, last-grows (goal.at.bounds-widths-n-in-Last c).In-Last)
+pub bounds-widths-n-in-Some-Last : goal.bounds-widths-n-in-Some-Last
+bounds-widths-n-in-Some-Last c = omega (arith, last-grows (goal.at.bounds-widths-n-in-Some-Last c).In-Some-Last)
