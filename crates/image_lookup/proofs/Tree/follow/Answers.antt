@@ -8,11 +8,11 @@ use Rattle.image_lookup.proofs.Tree.follow.Goals as goal
 
 pub returns-then-self-r : goal.returns-then-self-r
 returns-then-self-r c =
-    follow_on-stop _ _ _ c.loop-i.i c.args.word _ (omega arith) c.record_at-r.ensures.number c.if-self-r.true ∙ c.loop-i.invariant.2
+    follow_on-stop _ _ _ c.loop-i.i c.args.word _ (omega arith) c.record_at-r.ensures.number (omega arith) ∙ c.loop-i.invariant.2
 
 pub loop-i-preserved : goal.loop-i-preserved
 loop-i-preserved c =
-    let next = follow_on_next _ _ _ c.loop-i.i c.args.word _ (omega arith) c.record_at-r.ensures.number c.if-self-r.false in
+    let next = follow_on_next _ _ _ c.loop-i.i c.args.word _ (omega arith) c.record_at-r.ensures.number (omega arith) in
     (omega arith, omega arith, next ∙ c.loop-i.invariant.2)
 
 pub returns : goal.returns
