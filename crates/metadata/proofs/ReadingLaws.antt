@@ -8,8 +8,8 @@ use mathlib.Core.Path.{◌≡◌, refl, ap, ◌∙◌}
 use mathlib.Core.Bool.{Bool, true, false, cond}
 use mathlib.Core.List.{List, ◌++◌}
 use lib.Dec.{ltb, eqb, lit<}
-use lib.ListN.{length, take, drop, get_or, length-drop}
-use lib.Seq.{take_all, take-append_seam, sets-eq}
+use lib.ListN.{length, take, drop, get_or}
+use lib.Seq.{take-append_seam, sets-eq}
 use borrow.Author.Tests.{lt-ltb, le-ltb, eq-eqb, ne_eqb, ltb-true, ltb-false, eqb-true, eqb-false}
 use Rattle.std.specs.Prelude.{Some, None, bytes_eq}
 use Rattle.image.specs.Bytes.{short}
@@ -105,8 +105,8 @@ three_bytes a v h l = lt_of_lt_of_le l (pow-le-pow_right {n = 256} (lit< tt) {i 
 pub tail-room : (n epoch : ℕ) → n < 2 ^ 32 → 154 + length (short n) + length (short epoch) ≤ 166
 tail-room n epoch h = omega (arith, length_short_below 4 n (omega arith) h, length_short epoch)
 
-pub tail-fits : {old new : List ℕ} {r : ℕ} (n epoch : ℕ) → Put old 0 (tail_of n epoch) new r → n < 2 ^ 32 → r ≤ 166
-tail-fits n epoch h l = omega (arith, h.end, length-tail_of n epoch, tail-room n epoch l)
+pub tail_fits : {old new : List ℕ} {r : ℕ} (n epoch : ℕ) → Put old 0 (tail_of n epoch) new r → n < 2 ^ 32 → r ≤ 166
+tail_fits n epoch h l = omega (arith, h.end, length-tail_of n epoch, tail-room n epoch l)
 
 -- what was put at the start
 take_put : {old new vs : List ℕ} {r : ℕ} → Put old 0 vs new r → length vs ≤ length old → take r new ≡ vs
@@ -124,20 +124,20 @@ module _ (bs : List ℕ) (x : Nodes) (count : count_on bs ≡ Some x) {old wante
   abbrev tail : Tail
   tail = record { nodes = x.count; start = start; epoch = epoch }
 
-  found : frame_on bs ≡ cond (bytes_eq (take (length bs - start) (drop start bs)) (take end wanted)) (Some tail) None
-  unfolding frame_on
-  found =
-      let all : take (length bs - start) (drop start bs) ≡ drop start bs =
-      take_all (length bs - start) (drop start bs) (omega (arith, length-drop start bs)) in
-      let same : take end wanted ≡ tail_of x.count epoch =
-      take_put put (omega (arith, length-tail_of x.count epoch, tail-room x.count epoch small)) in
-      rw (count, all, same, is)
+  -- xs, which are compared, are the end of the bytes
+  module _ {xs : List ℕ} (end_is : xs ≡ drop start bs) where
+    found : frame_on bs ≡ cond (bytes_eq xs (take end wanted)) (Some tail) None
+    unfolding frame_on
+    found =
+        let same : take end wanted ≡ tail_of x.count epoch =
+        take_put put (omega (arith, length-tail_of x.count epoch, tail-room x.count epoch small)) in
+        rw (count, end_is, same, is)
 
-  pub frame_on_same : bytes_eq (take (length bs - start) (drop start bs)) (take end wanted) ≡ true → Some tail ≡ frame_on bs
-  frame_on_same h = rw (found, h)
+    pub frame_on_same : bytes_eq xs (take end wanted) ≡ true → Some tail ≡ frame_on bs
+    frame_on_same h = rw (found, h)
 
-  pub frame_on-differ : bytes_eq (take (length bs - start) (drop start bs)) (take end wanted) ≡ false → None ≡ frame_on bs
-  frame_on-differ h = rw (found, h)
+    pub frame_on-differ : bytes_eq xs (take end wanted) ≡ false → None ≡ frame_on bs
+    frame_on-differ h = rw (found, h)
 
 pub frame_on-none : (bs : List ℕ) → count_on bs ≡ None → None ≡ frame_on bs
 unfolding frame_on

@@ -162,6 +162,7 @@ pub fn count(bytes: &[u8]) -> Option<Nodes>
 
 // The node count, the start of the marker and the epoch, where the bytes end as an image does: every
 // byte of the marker and the metadata is compared with what the writer writes.
+#[tactic(auto, using(crate::proofs::ReadingLaws::tail_fits))]
 pub fn frame(bytes: &[u8]) -> Option<Tail>
     ensures { result ≡ frame_on bytes.now }
 {
