@@ -83,8 +83,8 @@ pub fn longest_match(
 
 // The refusals of a keyed call before its walk, in their order: on a table of so many words, and with a trail of
 // `room` bytes.
-// Stays without the key in its answer: handing it on takes some 20 instructions more in a store, which takes 904
-// over 20,000 routes, and its bar is 910 (docs/BENCHMARKS.md).
+// Stays without the key in its answer: handing it on takes some 20 instructions more in a store, and its bar has not
+// so many left (docs/DESIGN-PASS.md, Speed).
 #[tactic(auto, unfolding(crate::specs::Walking::refuse_on))]
 fn refuse(words: usize, k: Prefix, room: usize) -> Result<(), Refusal>
     ensures { result ≡ refuse_on words k room }

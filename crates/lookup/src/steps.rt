@@ -66,8 +66,8 @@ fn walk_on(
 
 // One step: the record of the next link, if there is one; None for words that no table has. Stays without a Refusal,
 // whose number would lie over the walk's links in the answer: these would go through memory at each node of 64 bits or
-// more, and a fetch below many of these take a ninth more time, a store a quarter more. It and `seen` are in line in
-// the walk, which saves a store some seven instructions: over 20,000 routes it takes 906, and its bar is 910.
+// more, and a fetch or a store below many of these takes 1.1 to 1.4 times the time. It and `seen` are in line in the
+// walk, which saves a store some seven instructions, more than its bar has left (docs/DESIGN-PASS.md).
 #[inline(always)]
 #[tactic(auto, unfolding(crate::specs::Walking::step_on))]
 fn step_at(table: &[u32], k: Key, s: Walk) -> Option<Step>

@@ -79,8 +79,8 @@ pub fn begins(k: Prefix, p: Prefix) -> bool
 }
 
 // The first n bits of a.
-// Stays in two ways: one for both halves, by `keep` of each, takes some 20 instructions more in a store, which takes
-// 904 over 20,000 routes, and its bar is 910 (docs/BENCHMARKS.md).
+// Stays in two ways: one for both halves, by `keep` of each, takes some 20 instructions more in a store, and its bar
+// has not so many left (docs/DESIGN-PASS.md, Speed).
 pub fn cut(a: Prefix, n: u32) -> Prefix
     requires { (a.width ≤ 128) × (n ≤ a.width) }
     ensures { Cut a n result }
